@@ -1,0 +1,7 @@
+// What every file of the product is made of: a header, and 16-bit words, high byte first.
+mod header;
+mod word;
+
+pub use header::HeaderFault;
+pub use header::check_header;
+pub use word::word_at;
