@@ -18,9 +18,6 @@ use Rattle.words.specs.declared.header.HeaderFault.the-variants.{Version, Leng
 four-is : (n b c d e : ℕ) → b < 256 → c < 256 → d < 256 → e < 256 → (b * 256 + c) * 65536 + (d * 256 + e) ≡ n → (b ≡ n / 16777216) × (c ≡ n / 65536 % 256) × (d ≡ n / 256 % 256) × (e ≡ n % 256)
 four-is n b c d e lb lc ld le is = (omega arith, omega arith, omega arith, omega arith)
 
-four-gives : (n : ℕ) → n < 4294967296 → (n / 16777216 * 256 + n / 65536 % 256) * 65536 + (n / 256 % 256 * 256 + n % 256) ≡ n
-four-gives n low = omega arith
-
 -- what the clauses of a test of the header say together
 pub record Tested (bs : List ℕ) (r : Result (Unit {0}) HeaderFault) : Type 0 where
   pub answer : r ≡ headerOf bs
