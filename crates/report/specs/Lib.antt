@@ -1,0 +1,3 @@
+pub mod Data
+pub mod Refusals
+pub mod Verbs

@@ -1,0 +1,10 @@
+// The text that the programs write, made from the library's answers.
+mod data;
+mod refusal;
+mod text;
+mod verb;
+
+pub use refusal::Report;
+pub use verb::DataLanguage;
+pub use verb::Verb;
+pub use verb::run;
