@@ -37,23 +37,23 @@ Spells op a b c (Some cell) = op ∷ (a ∷ (b ∷ (c ∷ []))) ≡ cellWords ce
 binary-spells : (k n a b c : ℕ) (op : Operation) → n ≡ operationNumber op → Spells n a b c (binary k a b c op)
 binary-spells k n a b c op is =
     cond-both (ltb a k && ltb b k && eqb c 0) (Some (Binary op a b)) None (Spells n a b c)
-      (λ h. let z = eqb-true c 0 (and-parts (ltb a k && ltb b k) (eqb c 0) h .1) in rw (is, z) refl) (λ _. tt)
+    (λ h. let z = eqb-true c 0 (and-parts (ltb a k && ltb b k) (eqb c 0) h .1) in rw (is, z) refl) (λ _. tt)
 
 decoded-spells : (k op a b c : ℕ) → Spells op a b c (decoded k op a b c)
 decoded-spells k op a b c =
     cond-both (eqb op 0) _ _ (Spells op a b c)
-      (λ o. cond-both (eqb b 0 && eqb c 0) (Some (Constant a)) None (Spells op a b c)
-        (λ h. let p = and-parts (eqb b 0) (eqb c 0) h in let x = eqb-true op 0 o in let y = eqb-true b 0 (p .0) in let z = eqb-true c 0 (p .1) in rw (x, y, z) refl) (λ _. tt))
+    (λ o. cond-both (eqb b 0 && eqb c 0) (Some (Constant a)) None (Spells op a b c)
+    (λ h. let p = and-parts (eqb b 0) (eqb c 0) h in let x = eqb-true op 0 o in let y = eqb-true b 0 (p .0) in let z = eqb-true c 0 (p .1) in rw (x, y, z) refl) (λ _. tt))
     (λ _. cond-both (eqb op 1) _ _ (Spells op a b c)
-      (λ o. cond-both (ltb a 16 && eqb b 0 && eqb c 0) (Some (Variable a)) None (Spells op a b c)
-        (λ h. let p = and-parts (ltb a 16 && eqb b 0) (eqb c 0) h in let q = and-parts (ltb a 16) (eqb b 0) (p .0) in let x = eqb-true op 1 o in let y = eqb-true b 0 (q .1) in let z = eqb-true c 0 (p .1) in rw (x, y, z) refl) (λ _. tt))
+    (λ o. cond-both (ltb a 16 && eqb b 0 && eqb c 0) (Some (Variable a)) None (Spells op a b c)
+    (λ h. let p = and-parts (ltb a 16 && eqb b 0) (eqb c 0) h in let q = and-parts (ltb a 16) (eqb b 0) (p .0) in let x = eqb-true op 1 o in let y = eqb-true b 0 (q .1) in let z = eqb-true c 0 (p .1) in rw (x, y, z) refl) (λ _. tt))
     (λ _. cond-both (eqb op 2) _ _ (Spells op a b c) (λ o. binary-spells k op a b c Sum (eqb-true op 2 o))
     (λ _. cond-both (eqb op 3) _ _ (Spells op a b c) (λ o. binary-spells k op a b c Difference (eqb-true op 3 o))
     (λ _. cond-both (eqb op 4) _ _ (Spells op a b c) (λ o. binary-spells k op a b c Product (eqb-true op 4 o))
     (λ _. cond-both (eqb op 5) _ _ (Spells op a b c) (λ o. binary-spells k op a b c Equal (eqb-true op 5 o))
     (λ _. cond-both (eqb op 6) _ _ (Spells op a b c) (λ o. binary-spells k op a b c Less (eqb-true op 6 o))
     (λ _. cond-both (eqb op 7) _ _ (Spells op a b c)
-      (λ o. cond-both (ltb a k && ltb b k && ltb c k) (Some (Choose a b c)) None (Spells op a b c) (λ _. let x = eqb-true op 7 o in rw x refl) (λ _. tt))
+    (λ o. cond-both (ltb a k && ltb b k && ltb c k) (Some (Choose a b c)) None (Spells op a b c) (λ _. let x = eqb-true op 7 o in rw x refl) (λ _. tt))
     (λ _. tt))))))))
 
 module _ (bs : List ℕ) (low : Bytes bs) where
@@ -69,10 +69,10 @@ module _ (bs : List ℕ) (low : Bytes bs) where
       let p = cellPlace k in
       let next : p + 8 ≡ cellPlace (k + 1) = omega arith in
       cond-both (ltb (length bs) (p + 8)) (Err (Length k)) _ (λ r. made r (IsCellAt k)) (λ _. tt)
-        (λ long.
-          let run = four-run bs p low (ltb-false (length bs) (p + 8) long) in
-          spelt k (wordAt bs p) (wordAt bs (p + 2)) (wordAt bs (p + 4)) (wordAt bs (p + 6)) _ (decoded-spells k (wordAt bs p) (wordAt bs (p + 2)) (wordAt bs (p + 4)) (wordAt bs (p + 6)))
-            (run ∙ ap (λ q. bytesOf (wordAt bs p ∷ (wordAt bs (p + 2) ∷ (wordAt bs (p + 4) ∷ (wordAt bs (p + 6) ∷ [])))) ++ drop q bs) next))
+      (λ long.
+      let run = four-run bs p low (ltb-false (length bs) (p + 8) long) in
+      spelt k (wordAt bs p) (wordAt bs (p + 2)) (wordAt bs (p + 4)) (wordAt bs (p + 6)) _ (decoded-spells k (wordAt bs p) (wordAt bs (p + 2)) (wordAt bs (p + 4)) (wordAt bs (p + 6)))
+      (run ∙ ap (λ q. bytesOf (wordAt bs p ∷ (wordAt bs (p + 2) ∷ (wordAt bs (p + 4) ∷ (wordAt bs (p + 6) ∷ [])))) ++ drop q bs) next))
 
   abbrev cellsRan : ℕ → List Cell → Type 0
   cellsRan n = Ran (cellOf bs) cellWords cellPlace bs cell-run n 0 []

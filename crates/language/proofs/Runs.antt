@@ -39,9 +39,9 @@ module _ (bs : List ℕ) where
   behind low (Err e) is = tt
   behind low (Ok u) is =
       cond-both (ltb (length bs) 7) (Err (Length 0)) _ (λ r. made r Counted) (λ _. tt)
-        (λ long. cond-both (leb (wordAt bs 5) 256) (Ok (wordAt bs 5)) (Err (Rule 0)) (λ r. made r Counted)
-          (λ _. (header-rules bs low .0 is, word-run bs 5 low (ltb-false (length bs) 7 long)))
-          (λ _. tt))
+      (λ long. cond-both (leb (wordAt bs 5) 256) (Ok (wordAt bs 5)) (Err (Rule 0)) (λ r. made r Counted)
+      (λ _. (header-rules bs low .0 is, word-run bs 5 low (ltb-false (length bs) 7 long)))
+      (λ _. tt))
 
   pub count-run : Bytes bs → made (countOf bs) Counted
   count-run low = behind low (headerOf bs) refl
@@ -54,11 +54,16 @@ module _ {X : Type 0} (get : ℕ → Result X DataFault) (wordsOf : X → List �
 
   more : (n k : ℕ) (xs all : List X) (x : X) → drop (place k) bs ≡ bytesOf (wordsOf x) ++ drop (place (k + 1)) bs → Ran n (k + 1) (xs ++ (x ∷ [])) all → Ran (suc n) k xs all
   more n k xs all x here (ys, (is, (long, run))) =
-      let on : place (k + 1 + n) ≡ place (k + suc n) = ap place (omega arith) in
-      ( x ∷ ys
-      , ( is ∙ append-assoc xs (x ∷ []) ys
-        , ( ap suc long
-          , runs-join bs (wordsOf x) (joined wordsOf ys) (place k) (place (k + 1)) (place (k + suc n)) here (run ∙ ap (λ q. bytesOf (joined wordsOf ys) ++ drop q bs) on))))
+      let on : place (k + 1 + n) ≡ place (k + suc n) = ap place (omega arith) in (
+        x ∷ ys,
+        (
+          is ∙ append-assoc xs (x ∷ []) ys,
+          (
+            ap suc long,
+            runs-join bs (wordsOf x) (joined wordsOf ys) (place k) (place (k + 1)) (place (k + suc n)) here (run ∙ ap (λ q. bytesOf (joined wordsOf ys) ++ drop q bs) on),
+          ),
+        ),
+      )
 
   more-ok : (n k : ℕ) (xs : List X) (x : X) (r : Result (List X) DataFault) → drop (place k) bs ≡ bytesOf (wordsOf x) ++ drop (place (k + 1)) bs → made r (Ran n (k + 1) (xs ++ (x ∷ []))) → made r (Ran (suc n) k xs)
   more-ok n k xs x (Ok all) here h = more n k xs all x here h
@@ -66,7 +71,7 @@ module _ {X : Type 0} (get : ℕ → Result X DataFault) (wordsOf : X → List �
 
   -- record k, where the others are given
   next : (n k : ℕ) (xs : List X) (r : Result X DataFault) → made r (λ x. drop (place k) bs ≡ bytesOf (wordsOf x) ++ drop (place (k + 1)) bs)
-    → ((ys : List X) → made (rowsFrom get n (k + 1) ys) (Ran n (k + 1) ys)) → made (then r (λ x. rowsFrom get n (k + 1) (xs ++ (x ∷ [])))) (Ran (suc n) k xs)
+      → ((ys : List X) → made (rowsFrom get n (k + 1) ys) (Ran n (k + 1) ys)) → made (then r (λ x. rowsFrom get n (k + 1) (xs ++ (x ∷ [])))) (Ran (suc n) k xs)
   next n k xs (Err e) h others = tt
   next n k xs (Ok x) h others = more-ok n k xs x (rowsFrom get n (k + 1) (xs ++ (x ∷ []))) h (others (xs ++ (x ∷ [])))
 

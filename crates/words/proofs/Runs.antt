@@ -36,7 +36,7 @@ two-run : (bs : List ℕ) (p : ℕ) → Bytes bs → p + 4 ≤ length bs → dro
 two-run bs p low le =
     let on : p + 2 + 2 ≡ p + 4 = omega arith in
     runs-join bs (wordAt bs p ∷ []) (wordAt bs (p + 2) ∷ []) p (p + 2) (p + 4) (word-run bs p low (omega arith))
-      (word-run bs (p + 2) low (omega arith) ∙ ap (λ q. bytesOf (wordAt bs (p + 2) ∷ []) ++ drop q bs) on)
+    (word-run bs (p + 2) low (omega arith) ∙ ap (λ q. bytesOf (wordAt bs (p + 2) ∷ []) ++ drop q bs) on)
 
 -- a record of four words
 pub four-run : (bs : List ℕ) (p : ℕ) → Bytes bs → p + 8 ≤ length bs → drop p bs ≡ bytesOf (wordAt bs p ∷ (wordAt bs (p + 2) ∷ (wordAt bs (p + 4) ∷ (wordAt bs (p + 6) ∷ [])))) ++ drop (p + 8) bs
@@ -44,4 +44,4 @@ four-run bs p low le =
     let six : p + 4 + 2 ≡ p + 6 = omega arith in
     let on : p + 4 + 4 ≡ p + 8 = omega arith in
     runs-join bs (wordAt bs p ∷ (wordAt bs (p + 2) ∷ [])) (wordAt bs (p + 4) ∷ (wordAt bs (p + 6) ∷ [])) p (p + 4) (p + 8) (two-run bs p low (omega arith))
-      (two-run bs (p + 4) low (omega arith) ∙ ap (λ q. bytesOf (wordAt bs (p + 4) ∷ (wordAt bs q ∷ [])) ++ drop (p + 4 + 4) bs) six ∙ ap (λ q. bytesOf (wordAt bs (p + 4) ∷ (wordAt bs (p + 6) ∷ [])) ++ drop q bs) on)
+    (two-run bs (p + 4) low (omega arith) ∙ ap (λ q. bytesOf (wordAt bs (p + 4) ∷ (wordAt bs q ∷ [])) ++ drop (p + 4 + 4) bs) six ∙ ap (λ q. bytesOf (wordAt bs (p + 4) ∷ (wordAt bs (p + 6) ∷ [])) ++ drop q bs) on)
