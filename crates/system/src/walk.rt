@@ -13,6 +13,7 @@ use crate::rows::waited;
 use crate::system::Markov;
 use crate::trail::Trail;
 
+#[derive(Drop)]
 pub struct Walk<S: Markov> {
     system: S,
     trail: Trail,
