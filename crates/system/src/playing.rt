@@ -2,7 +2,7 @@
 ghost use mathlib.Core.Path.{_≡_};
 ghost use lib.ListN.{set};
 ghost use Rattle.system.specs.Walks.{played, played-answers, overlaid};
-ghost use Rattle.system.specs.Reaching.{Covers, Walked};
+ghost use Rattle.system.specs.Reaching.{WalkRules, Walked};
 ghost use Rattle.system.specs.Trails.{course};
 use crate::answers::Call;
 use crate::refusal::Refusal;
@@ -24,7 +24,7 @@ pub fn play<S: Markov>(system: S, calls: &[Call], answers: &mut [Result<(), Refu
     ensures answer { λ r. ⌜ course (S·System .meaning system .width) (r .trail) ≡ played (S·System .meaning system) (S·Markov .delays system) (now (calls .entry)) ⌝ }
     ensures leaves { λ _. ⌜ now (answers .exit) ≡ overlaid (played-answers (S·System .meaning system) (S·Markov .delays system) (now (calls .entry))) (now (answers .entry)) ⌝ }
     ensures walks { λ r. ⌜ Walked (S·System .meaning system) (S·Markov .delays system) (course (S·System .meaning system .width) (r .trail)) ⌝ }
-    ensures covers { λ _. ⌜ Covers (S·System .meaning system) (S·Markov .delays system) ⌝ }
+    ensures rules { λ _. ⌜ WalkRules (S·System .meaning system) (S·Markov .delays system) ⌝ }
     ensures same { λ r. ⌜ r .system ≡ system ⌝ }
 {
     let mut walk = Walk::new(system);

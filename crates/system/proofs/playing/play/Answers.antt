@@ -1,5 +1,5 @@
 use mathlib.Core.Path.{refl, _∙_}
-use Rattle.system.proofs.Coverings.{covers}
+use Rattle.system.proofs.WalkLaws.{walk-rules}
 use Rattle.system.proofs.Plays.{going-step, going-end}
 use Rattle.system.proofs.playing.play.Needs as need
 
@@ -18,4 +18,4 @@ returns g c =
     let inv = c .loop-i .inv in
     let s = c .args .system in
     let end = going-end (g .S·System .meaning) (g .S·Markov .delays) (c .args .system) (c .new-walk .result .system) (c .args .calls .now) (c .loop-i .i) (c .new-walk .result .trail) (c .loop-i .walk .trail) (c .args .answers .now) (c .loop-i .answers) (made .same) (made .answer) (inv .1) (c .loop-i-test .left) in
-    record { answer = end .answer; leaves = end .leaves; walks = end .walks; covers = covers (g .S·System .meaning s) (g .S·Markov .delays s) (g .S·System·met .sound s) (g .S·Markov·met .waits s); same = inv .0 ∙ made .same }
+    record { answer = end .answer; leaves = end .leaves; walks = end .walks; rules = walk-rules (g .S·System .meaning s) (g .S·Markov .delays s) (g .S·System·met .sound s) (g .S·Markov·met .waits s); same = inv .0 ∙ made .same }
