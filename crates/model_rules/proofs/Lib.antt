@@ -1,0 +1,2 @@
+pub mod Down
+pub mod Firsts

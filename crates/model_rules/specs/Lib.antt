@@ -1,0 +1,5 @@
+pub mod Names
+pub mod Rules
+pub mod Shapes
+pub mod Tallies
+pub mod Ways
