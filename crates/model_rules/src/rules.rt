@@ -1,6 +1,10 @@
 // The rules in their order, each over the whole file.
 ghost use mathlib.Core.Path.{_≡_};
 ghost use Rattle.model_rules.specs.Rules.{holds, faultOf, ruleFault, firstFault, rulesFault, ruled};
+ghost use Rattle.model_rules.specs.Sound.{Sound};
+ghost use Rattle.model_file.specs.Limits.{InLimits};
+ghost use Rattle.std.specs.declared.result.Result.the-variants.{Ok};
+ghost use Rattle.words.specs.Headers.{Iff};
 use crate::names::body_named;
 use crate::names::node_named;
 use crate::ways::call_placed;
@@ -96,6 +100,7 @@ fn check_in_order(bytes: &[u8], layout: Layout) -> Result<(), ModelFault>
 // The first rule that a file of six sections breaks, and where.
 pub fn check_rules(bytes: &[u8]) -> Result<(), ModelFault>
     ensures answer { λ r. ⌜ r ≡ ruled (now (bytes .entry)) ⌝ }
+    ensures rules { λ r. ⌜ (InLimits (now (bytes .entry)) → Iff (r ≡ Ok tt) (Sound (now (bytes .entry)))) ⌝ }
 {
     check_in_order(bytes, locate(bytes))
 }
