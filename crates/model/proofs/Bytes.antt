@@ -9,8 +9,7 @@ use lib.ListN.{length, getD, take, drop}
 use Rattle.std.specs.Iters.{counting}
 use Rattle.std.specs.Joined.{joined}
 use Rattle.std.proofs.shelf.Lists.{drop-more}
-use Rattle.words.specs.Words.{wordAt}
-use Rattle.model.specs.File.{bytesOf}
+use Rattle.words.specs.Words.{wordAt, bytesOf}
 use Rattle.model.specs.Flat.{numbered}
 
 pub bytes-append : (xs ys : List ℕ) → bytesOf (xs ++ ys) ≡ bytesOf xs ++ bytesOf ys

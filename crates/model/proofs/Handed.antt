@@ -16,7 +16,7 @@ use Rattle.model_rules.specs.Shapes.{shapeAt}
 use Rattle.model_rules.specs.Sound.{Names}
 use Rattle.model_rules.proofs.Decoded.{shape-is}
 use Rattle.model.specs.declared.node.Process.{Process}
-use Rattle.model.specs.File.{bytesOf}
+use Rattle.words.specs.Words.{bytesOf}
 use Rattle.model.specs.Flat.{orDelay, processOf, nodeOf, flat}
 use Rattle.model.specs.Nodes.{NodeValue, call, action, noProcess, callArity, actionArity, argumentsFrom, valueIn, nodeIn, argumentBytes, valueAt}
 use Rattle.model.specs.WellFormed.{WellFormed}

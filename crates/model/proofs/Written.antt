@@ -7,7 +7,7 @@ use lib.ListN.{length, getD, take, drop}
 use Rattle.std.specs.Joined.{joined}
 use Rattle.std.specs.declared.option.Option.the-variants.{Some, None}
 use Rattle.std.proofs.shelf.Lists.{drop-all, drop-drop}
-use Rattle.words.specs.Words.{wordAt}
+use Rattle.words.specs.Words.{wordAt, bytesOf}
 use Rattle.words.specs.Headers.{headed}
 use Rattle.model_file.specs.declared.layout.Layout.{Layout}
 use Rattle.model_file.specs.Fields.{variableCount, sizeOf, processCount, firstOf, numberOf, bodyOf, startOf, valueOf, actionCount, arityOf, nodeCount, argumentCount, argumentOf}
@@ -19,7 +19,7 @@ use Rattle.model_rules.specs.Shapes.{shapeAt, fieldsOf}
 use Rattle.model_rules.specs.Sound.{IsNode, nodeWords}
 use Rattle.model_rules.proofs.Decoded.{shape-is}
 use Rattle.model.specs.declared.node.Process.{Process}
-use Rattle.model.specs.File.{bytesOf, processWords, wordsOf, fileOf}
+use Rattle.model.specs.File.{processWords, wordsOf, fileOf}
 use Rattle.model.specs.Flat.{Flat, numbered, orDelay, processOf, nodeOf, flatAt, flat}
 use Rattle.model.specs.WellFormed.{WellFormed}
 use Rattle.model.proofs.Bytes.{bytes-append, bytes-take, bytes-drop, joined-single, wordsFrom, words-there, section}

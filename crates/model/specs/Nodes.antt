@@ -16,7 +16,7 @@ use Rattle.model_rules.specs.declared.shape.Shape.the-variants as shape
 use Rattle.model.specs.declared.node.Node.{Node}
 use Rattle.model.specs.declared.node.Node.the-variants as node
 use Rattle.model.specs.declared.node.Process.{Process}
-use Rattle.model.specs.File.{bytesOf}
+use Rattle.words.specs.Words.{bytesOf}
 use Rattle.model.specs.Flat.{Flat}
 
 pub data NodeValue : Type 0 where
