@@ -1,4 +1,4 @@
-// Looks at the product's files: `mapa data formula|table` reads a data file on standard input.
+// Looks at the product's files, one on standard input: `mapa data formula|table`, `mapa model`.
 use report::DataLanguage;
 use report::Verb;
 use report::run;
@@ -7,9 +7,12 @@ use std::error::AnyError;
 use std::io::Read;
 use std::io::Write;
 
-const USAGE: &str = "usage: mapa data formula|table < FILE";
+const USAGE: &str = "usage: mapa data formula|table < FILE, or mapa model < FILE";
 
 fn verb_of(words: &[String]) -> Option<Verb> {
+    if words.len() == 2 && words[1].as_str() == "model" {
+        return Some(Verb::Model);
+    }
     if words.len() != 3 || words[1].as_str() != "data" {
         return None;
     }

@@ -1,3 +1,5 @@
 pub mod Data
+pub mod Kinds
 pub mod Refusals
+pub mod Summaries
 pub mod Verbs

@@ -5,7 +5,7 @@ use lib.Chars.{codes}
 use Rattle.std.specs.Written.{decimal}
 use Rattle.report.specs.declared.refusal.Refused.{Refused}
 use Rattle.report.specs.declared.refusal.Stage.{Stage}
-use Rattle.report.specs.declared.refusal.Stage.the-variants.{Data}
+use Rattle.report.specs.declared.refusal.Stage.the-variants.{Model, Data}
 
 abbrev pub space : List ℕ
 space = codes " "
@@ -14,6 +14,7 @@ abbrev pub newline : List ℕ
 newline = 10 ∷ []
 
 abbrev pub stageText : Stage → List ℕ
+stageText Model = codes "model"
 stageText Data = codes "data"
 
 abbrev pub refusedText : Refused → List ℕ

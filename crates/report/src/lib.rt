@@ -1,6 +1,8 @@
 // The text that the programs write, made from the library's answers.
 mod data;
+mod kinds;
 mod refusal;
+mod summary;
 mod text;
 mod verb;
 

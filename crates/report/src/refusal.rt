@@ -17,6 +17,7 @@ pub struct Report {
 // What was refused.
 #[derive(Clone, Copy)]
 pub(crate) enum Stage {
+    Model,
     Data,
 }
 
@@ -33,6 +34,7 @@ fn stage_word(stage: Stage) -> &'static str
     ensures answer { λ r. ⌜ now r ≡ stageText stage ⌝ }
 {
     match stage {
+        Stage::Model => "model",
         Stage::Data => "data",
     }
 }

@@ -5,6 +5,7 @@ ghost use Rattle.std.specs.Of.String.{string-bytes};
 ghost use Rattle.std.specs.Vec.{made};
 use crate::data::data_report;
 use crate::refusal::Report;
+use crate::summary::model_report;
 use formula::Formula;
 use formula::FormulaFile;
 use std::alloc::AllocError;
@@ -22,6 +23,8 @@ pub enum DataLanguage {
 pub enum Verb {
     // a data file: each expression, its value with all variables 0, the variables it names
     Data(DataLanguage),
+    // a model file: what it has, section by section
+    Model,
 }
 
 // What a verb writes of its input.
@@ -32,5 +35,6 @@ pub fn run(verb: Verb, input: &[u8], heap: Global) -> Result<Report, AllocError>
     match verb {
         Verb::Data(DataLanguage::Formula) => data_report::<Formula>(input, heap),
         Verb::Data(DataLanguage::Table) => data_report::<Table>(input, heap),
+        Verb::Model => model_report(input, heap),
     }
 }
