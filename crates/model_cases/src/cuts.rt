@@ -27,45 +27,23 @@ fn odd_bytes(rt: LibcRuntime) -> Result<(), Fail> {
 }
 
 // Section and record of the fault when only so many words of the queue are there.
-const CUTS: [(u16, u16); 31] = [
-    (1, 0),
-    (1, 0),
-    (2, 0),
-    (2, 0),
-    (2, 0),
-    (2, 0),
-    (3, 0),
-    (3, 0),
-    (4, 0),
-    (4, 0),
-    (5, 0),
-    (5, 0),
-    (5, 0),
-    (5, 0),
-    (5, 0),
-    (5, 0),
-    (5, 0),
-    (5, 1),
-    (5, 1),
-    (5, 1),
-    (5, 1),
-    (5, 1),
-    (5, 1),
-    (5, 2),
-    (5, 2),
-    (5, 2),
-    (5, 2),
-    (5, 2),
-    (5, 2),
-    (6, 0),
-    (6, 0),
-];
+fn cut_after(words: usize) -> (u16, u16, u16) {
+    match words {
+        0..=1 => (2, 1, 0),
+        2..=5 => (2, 2, 0),
+        6..=7 => (2, 3, 0),
+        8..=9 => (2, 4, 0),
+        10..=16 => (2, 5, 0),
+        17..=22 => (2, 5, 1),
+        23..=28 => (2, 5, 2),
+        _ => (2, 6, 0),
+    }
+}
 
 #[test]
 fn cut_anywhere(rt: LibcRuntime) -> Result<(), Fail> {
     for n in 0..31 {
-        let (section, record1) = CUTS[n];
-        check_eq(of_words(rt.alloc(), &QUEUE[0..n])?, (2, section, record1))?;
+        check_eq(of_words(rt.alloc(), &QUEUE[0..n])?, cut_after(n))?;
     }
     Ok(())
 }
