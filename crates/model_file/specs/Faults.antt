@@ -11,17 +11,17 @@ use Rattle.model_file.specs.declared.fault.FaultCode.{FaultCode}
 use Rattle.model_file.specs.declared.fault.ModelFault.{ModelFault}
 use Rattle.model_file.specs.declared.fault.ModelFault.the-variants.{Version, Cut, Limit, Unnamed, NotOnce, CallElsewhere, WaysDown}
 
-abbrev pub coded : ℕ → ℕ → ℕ → FaultCode
-coded n s r = record { number = n; section = s; «record» = r }
+abbrev pub faultCode : ℕ → ℕ → ℕ → FaultCode
+faultCode n s r = record { number = n; section = s; «record» = r }
 
 abbrev pub codeOf : ModelFault → FaultCode
-codeOf Version = coded 1 0 0
-codeOf (Cut s r) = coded 2 s r
-codeOf (Limit s r) = coded 3 s r
-codeOf (Unnamed s r) = coded 4 s r
-codeOf (NotOnce s r) = coded 5 s r
-codeOf (CallElsewhere n) = coded 7 5 n
-codeOf (WaysDown n) = coded 8 5 n
+codeOf Version = faultCode 1 0 0
+codeOf (Cut s r) = faultCode 2 s r
+codeOf (Limit s r) = faultCode 3 s r
+codeOf (Unnamed s r) = faultCode 4 s r
+codeOf (NotOnce s r) = faultCode 5 s r
+codeOf (CallElsewhere n) = faultCode 7 5 n
+codeOf (WaysDown n) = faultCode 8 5 n
 
 abbrev pub ofHeader : HeaderFault → ModelFault
 ofHeader header.Version = Version

@@ -1,6 +1,6 @@
 // Why a model file is refused. Sections count from 1, records from 0.
 ghost use mathlib.Core.Path.{_≡_};
-ghost use Rattle.model_file.specs.Faults.{codeOf, ofHeader};
+ghost use Rattle.model_file.specs.Faults.{faultCode, codeOf, ofHeader};
 use words::HeaderFault;
 
 #[derive(Clone, Copy, Debug, PartialEq, Eq)]
@@ -29,46 +29,28 @@ pub struct FaultCode {
     pub record: u16,
 }
 
+fn coded(number: u16, section: u16, place: u16) -> FaultCode
+    ensures answer { λ r. ⌜ r ≡ faultCode number section place ⌝ }
+{
+    FaultCode {
+        number,
+        section,
+        record: place,
+    }
+}
+
 impl ModelFault {
     pub fn code(self) -> FaultCode
         ensures answer { λ r. ⌜ r ≡ codeOf self ⌝ }
     {
         match self {
-            ModelFault::Version => FaultCode {
-                number: 1,
-                section: 0,
-                record: 0,
-            },
-            ModelFault::Cut { section, record } => FaultCode {
-                number: 2,
-                section,
-                record,
-            },
-            ModelFault::Limit { section, record } => FaultCode {
-                number: 3,
-                section,
-                record,
-            },
-            ModelFault::Unnamed { section, record } => FaultCode {
-                number: 4,
-                section,
-                record,
-            },
-            ModelFault::NotOnce { section, record } => FaultCode {
-                number: 5,
-                section,
-                record,
-            },
-            ModelFault::CallElsewhere { node } => FaultCode {
-                number: 7,
-                section: 5,
-                record: node,
-            },
-            ModelFault::WaysDown { node } => FaultCode {
-                number: 8,
-                section: 5,
-                record: node,
-            },
+            ModelFault::Version => coded(1, 0, 0),
+            ModelFault::Cut { section, record } => coded(2, section, record),
+            ModelFault::Limit { section, record } => coded(3, section, record),
+            ModelFault::Unnamed { section, record } => coded(4, section, record),
+            ModelFault::NotOnce { section, record } => coded(5, section, record),
+            ModelFault::CallElsewhere { node } => coded(7, 5, node),
+            ModelFault::WaysDown { node } => coded(8, 5, node),
         }
     }
 }

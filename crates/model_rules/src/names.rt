@@ -65,12 +65,7 @@ fn names_fit(bytes: &[u8], layout: Layout, node: u16, shape: Option<Shape>) -> b
             process < word_at(bytes, layout.processes as usize)
                 && arguments_fit(arguments, first, number_of(bytes, layout, process))
         }
-        Some(
-            Shape::Condition {
-                expression: _,
-                child,
-            },
-        ) => child_fits(nodes, node, child),
+        Some(Shape::Condition { child, .. }) => child_fits(nodes, node, child),
         Some(Shape::Choice { left, right }) => child_fits(nodes, node, left)
             && child_fits(nodes, node, right),
         Some(Shape::Sum { variable, child }) => variable < word_at(bytes, 5)
@@ -80,8 +75,8 @@ fn names_fit(bytes: &[u8], layout: Layout, node: u16, shape: Option<Shape>) -> b
                 action,
                 first,
                 variable,
-                weight: _,
                 child,
+                ..
             },
         ) => {
             action < word_at(bytes, layout.actions as usize)
@@ -89,7 +84,7 @@ fn names_fit(bytes: &[u8], layout: Layout, node: u16, shape: Option<Shape>) -> b
                 && variable < word_at(bytes, 5)
                 && child_fits(nodes, node, child)
         }
-        Some(Shape::Delay { rate: _, child }) => child_fits(nodes, node, child),
+        Some(Shape::Delay { child, .. }) => child_fits(nodes, node, child),
     }
 }
 

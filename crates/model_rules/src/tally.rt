@@ -37,30 +37,12 @@ fn children_share(node: u16, shape: Option<Shape>) -> usize
 {
     match shape {
         None => 0,
-        Some(
-            Shape::Call {
-                process: _,
-                first: _,
-            },
-        ) => 0,
-        Some(
-            Shape::Condition {
-                expression: _,
-                child,
-            },
-        ) => one_if(child == node),
+        Some(Shape::Call { .. }) => 0,
+        Some(Shape::Condition { child, .. }) => one_if(child == node),
         Some(Shape::Choice { left, right }) => one_if(left == node) + one_if(right == node),
-        Some(Shape::Sum { variable: _, child }) => one_if(child == node),
-        Some(
-            Shape::Action {
-                action: _,
-                first: _,
-                variable: _,
-                weight: _,
-                child,
-            },
-        ) => one_if(child == node),
-        Some(Shape::Delay { rate: _, child }) => one_if(child == node),
+        Some(Shape::Sum { child, .. }) => one_if(child == node),
+        Some(Shape::Action { child, .. }) => one_if(child == node),
+        Some(Shape::Delay { child, .. }) => one_if(child == node),
     }
 }
 
@@ -69,16 +51,8 @@ fn movers_share(node: u16, shape: Option<Shape>) -> usize
     ensures small { λ r. ⌜ r ≤ 2 ⌝ }
 {
     match shape {
-        Some(
-            Shape::Action {
-                action: _,
-                first: _,
-                variable: _,
-                weight: _,
-                child,
-            },
-        ) => one_if(child == node),
-        Some(Shape::Delay { rate: _, child }) => one_if(child == node),
+        Some(Shape::Action { child, .. }) => one_if(child == node),
+        Some(Shape::Delay { child, .. }) => one_if(child == node),
         _ => 0,
     }
 }
@@ -90,17 +64,14 @@ fn binders_share(variable: u16, shape: Option<Shape>) -> usize
     match shape {
         Some(
             Shape::Action {
-                action: _,
-                first: _,
                 variable: bound,
-                weight: _,
-                child: _,
+                ..
             },
         ) => one_if(bound == variable),
         Some(
             Shape::Sum {
                 variable: bound,
-                child: _,
+                ..
             },
         ) => one_if(bound == variable),
         _ => 0,

@@ -1,11 +1,9 @@
-// Resting places, and the limits on the ways down from one.
+// The limits on the ways down from a resting place.
 ghost use mathlib.Core.Path.{_≡_};
-ghost use Rattle.model_rules.specs.Tallies.{nodeOnce, variableOnce, moved, body, callPlaced, resting, isCall};
 ghost use Rattle.model_rules.specs.Ways.{limits, ways, waysFit};
+use crate::places::is_resting;
 use crate::shape::Shape;
 use crate::shape::shape_at;
-use crate::tally::Tally;
-use crate::tally::tally_of;
 use model_file::Layout;
 use words::word_at;
 
@@ -14,99 +12,6 @@ const MOST_SUMS: u16 = 8;
 const MOST_CONDITIONS: u16 = 8;
 
 const LARGEST_PRODUCT: usize = 65536;
-
-fn is_call(shape: Option<Shape>) -> bool
-    ensures answer { λ r. ⌜ r ≡ isCall shape ⌝ }
-{
-    match shape {
-        Some(
-            Shape::Call {
-                process: _,
-                first: _,
-            },
-        ) => true,
-        _ => false,
-    }
-}
-
-pub(crate) fn node_once(bytes: &[u8], layout: Layout, node: u16) -> bool
-    ensures answer { λ r. ⌜ r ≡ nodeOnce (now (bytes .entry)) layout node ⌝ }
-{
-    tally_of(
-        bytes,
-        layout,
-        Tally::Bodies { node },
-        word_at(bytes, layout.processes as usize),
-    )
-        + tally_of(
-            bytes,
-            layout,
-            Tally::Children { node },
-            word_at(bytes, layout.nodes as usize),
-        )
-        == 1
-}
-
-pub(crate) fn variable_once(bytes: &[u8], layout: Layout, variable: u16) -> bool
-    ensures answer { λ r. ⌜ r ≡ variableOnce (now (bytes .entry)) layout variable ⌝ }
-{
-    tally_of(
-        bytes,
-        layout,
-        Tally::Parameters { variable },
-        word_at(bytes, layout.processes as usize),
-    )
-        + tally_of(
-            bytes,
-            layout,
-            Tally::Binders { variable },
-            word_at(bytes, layout.nodes as usize),
-        )
-        == 1
-}
-
-// Whether a node is the child of an action or a delay.
-fn is_moved(bytes: &[u8], layout: Layout, node: u16) -> bool
-    ensures answer { λ r. ⌜ r ≡ moved (now (bytes .entry)) layout node ⌝ }
-{
-    tally_of(
-        bytes,
-        layout,
-        Tally::Movers { node },
-        word_at(bytes, layout.nodes as usize),
-    )
-        > 0
-}
-
-fn is_body(bytes: &[u8], layout: Layout, node: u16) -> bool
-    ensures answer { λ r. ⌜ r ≡ body (now (bytes .entry)) layout node ⌝ }
-{
-    tally_of(
-        bytes,
-        layout,
-        Tally::Bodies { node },
-        word_at(bytes, layout.processes as usize),
-    )
-        > 0
-}
-
-pub(crate) fn call_placed(bytes: &[u8], layout: Layout, node: u16) -> bool
-    ensures answer { λ r. ⌜ r ≡ callPlaced (now (bytes .entry)) layout node ⌝ }
-{
-    if is_call(shape_at(bytes, layout, node)) {
-        is_moved(bytes, layout, node)
-    } else {
-        true
-    }
-}
-
-// A resting place is a body, or a child of an action or a delay that is no call.
-fn is_resting(bytes: &[u8], layout: Layout, node: u16) -> bool
-    ensures answer { λ r. ⌜ r ≡ resting (now (bytes .entry)) layout node ⌝ }
-{
-    is_body(bytes, layout, node)
-        || is_moved(bytes, layout, node) && !is_call(shape_at(bytes, layout, node))
-}
 
 fn in_limits(sums: u16, conditions: u16, product: usize) -> bool
     ensures answer { λ r. ⌜ r ≡ limits sums conditions product ⌝ }

@@ -42,63 +42,14 @@ pub fn accept<'a>(draft: Draft<'a>, into: &mut Model<'a>) -> Result<(), ModelFau
 }
 
 // One process without parameters: a delay of rate expression 0, then the process again.
-static SMALLEST: [u8; 49] = [
-    1,
-    0,
-    0,
-    0,
-    44,
-    0,
-    0,
-    0,
-    1,
-    0,
-    0,
-    0,
-    0,
-    0,
-    0,
-    0,
-    0,
-    0,
-    1,
-    0,
-    0,
-    0,
-    2,
-    0,
-    6,
-    0,
-    0,
-    0,
-    1,
-    0,
-    0,
-    0,
-    0,
-    0,
-    0,
-    0,
-    1,
-    0,
-    0,
-    0,
-    0,
-    0,
-    0,
-    0,
-    0,
-    0,
-    0,
-    0,
-    0,
-];
+const SMALLEST: &[u8; 49] =
+    b"\x01\0\0\0\x2c\0\0\0\x01\0\0\0\0\0\0\0\0\0\x01\0\0\0\x02\0\x06\0\0\0\x01\0\0\0\0\0\0\0\x01\0\0\0\0\0\0\0\0\0\0\0\0";
 
 impl<'a> Model<'a> {
     // A first model, for `accept` to fill.
     pub fn smallest() -> Model<'a>
         ensures answer { λ r. ⌜ flat (now (r .bytes)) ≡ smallestFlat ⌝ }
     {
-        Model { bytes: &SMALLEST }
+        Model { bytes: SMALLEST }
     }
 }
