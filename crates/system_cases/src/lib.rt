@@ -1,8 +1,4 @@
-// Walks, plays and explorations of small systems.
-#[cfg(test)]
-mod explorations;
-#[cfg(test)]
-mod layers;
+// Questions, walks and plays of a small system.
 #[cfg(test)]
 mod questions;
 #[cfg(test)]
