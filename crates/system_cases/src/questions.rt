@@ -45,7 +45,13 @@ fn outcome_refusals_in_order() -> Result<(), Fail> {
     check(weighed(system.outcome(&NOWHERE, 9, 9, &mut target)) == 10)?;
     check(weighed(system.outcome(&FIRST, 9, 9, &mut target)) == 11)?;
     check(weighed(system.outcome(&FIRST, 0, 9, &mut target)) == 12)?;
-    check(target == [7, 7])?;
+    check(target == [7, 7])
+}
+
+#[test]
+fn outcomes_have_weights_and_targets() -> Result<(), Fail> {
+    let system = Failover {};
+    let mut target = [7u16; 2];
     check(weighed(system.outcome(&FIRST, 0, 1, &mut target)) == 1000)?;
     check(target == [0, 0])?;
     check(weighed(system.outcome(&FIRST, 0, 2, &mut target)) == 1001)?;
