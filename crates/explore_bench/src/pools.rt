@@ -25,7 +25,7 @@ pub struct Pools {
 }
 
 impl Pools {
-    pub fn new(fast: u16, slow: u16) -> Option<Pools> {
+    pub(crate) fn new(fast: u16, slow: u16) -> Option<Pools> {
         if fast == 0 || fast > 4000 || slow == 0 || slow > 4000 {
             return None;
         }
