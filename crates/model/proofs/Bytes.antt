@@ -88,3 +88,16 @@ module _ (bs : List ℕ) (low : (i : ℕ) → getD bs i 0 < 256) where
       word-there p fit
       ∙ ap (λ xs. wordAt bs p / 256 ∷ (wordAt bs p % 256 ∷ xs))
       (ap (λ q. drop q bs) zero-at ∙ records h f w (p + 2) k 0 (λ j a b. each j (omega arith)) ∙ ap (λ j. bytesOf (joined h (numbered k f)) ++ drop (p + 2 + w * j) bs) to-k)
+
+-- a word of the bytes, and how many they are
+pub bytes-word : (ws : List ℕ) (i : ℕ) → wordAt (bytesOf ws) (2 * i) ≡ getD ws i 0
+bytes-word [] i = refl
+bytes-word (w ∷ ws) zero = omega arith
+bytes-word (w ∷ ws) (suc i) =
+    let e : 2 * suc i ≡ suc (suc (2 * i)) = omega arith in
+    let f : suc (suc (2 * i)) + 1 ≡ suc (suc (2 * i + 1)) = omega arith in
+    ap (wordAt (bytesOf (w ∷ ws))) e ∙ ap (λ j. getD (bytesOf ws) (2 * i) 0 * 256 + getD (bytesOf (w ∷ ws)) j 0) f ∙ bytes-word ws i
+
+pub length-bytes : (ws : List ℕ) → length (bytesOf ws) ≡ 2 * length ws
+length-bytes [] = refl
+length-bytes (w ∷ ws) = let e = length-bytes ws in omega arith

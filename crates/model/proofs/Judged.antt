@@ -24,7 +24,9 @@ use Rattle.model_rules.proofs.Ruled.{rules-are}
 use Rattle.model.specs.Accept.{judged}
 use Rattle.model.specs.File.{fileOf}
 use Rattle.model.specs.Flat.{flat}
+use Rattle.model.specs.Made.{Made}
 use Rattle.model.specs.WellFormed.{WellFormed}
+use Rattle.model.proofs.Made.{made}
 use Rattle.model.proofs.Written.{written}
 
 -- what the clauses of a judgement say together
@@ -32,12 +34,13 @@ pub record Judged (bs : List ℕ) (r : Result (Unit {0}) ModelFault) : Type 0 wh
   pub answer : r ≡ judged bs
   pub rules : Iff (r ≡ Ok tt) (WellFormed bs)
   pub whole : r ≡ Ok tt → fileOf (flat bs) ≡ bs
+  pub lists : r ≡ Ok tt → Made (flat bs)
 
 module _ (bs : List ℕ) (low : (i : ℕ) → getD bs i 0 < 256) where
   pub judgement : (r : Result (Unit {0}) ModelFault) → Ok tt ≡ sectioned bs → InLimits bs → r ≡ ruled bs → (InLimits bs → Iff (r ≡ Ok tt) (Sound bs)) → Judged bs r
   judgement r cut limits is rules =
       let well : r ≡ Ok tt → WellFormed bs = λ ok. record { limits = limits; sound = rules limits .0 ok } in
-      record { answer = is ∙ ap (λ q. andThen q (λ _. ruled bs)) cut; rules = (well, λ m. rules (m .limits) .1 (m .sound)); whole = λ ok. written bs low (well ok) }
+      record { answer = is ∙ ap (λ q. andThen q (λ _. ruled bs)) cut; rules = (well, λ m. rules (m .limits) .1 (m .sound)); whole = λ ok. written bs low (well ok); lists = λ ok. made bs (well ok) }
 
   or-ok : (h : Result (Unit {0}) HeaderFault) → (x : Unit {0}) → orFault h ≡ Ok x → h ≡ Ok tt
   or-ok (Ok x) y e = refl

@@ -4,33 +4,6 @@ use std::alloc::AllocError;
 use std::alloc::Global;
 use std::test::*;
 
-// Three variables, bound by a parameter, a sum and an action; two processes, and nodes of every kind.
-const HEAD: [u16; 17] = [3, 3, 4, 5, 2, 0, 1, 0, 0, 0, 8, 0, 2, 2, 0, 3, 10];
-
-const NODES: [[u16; 6]; 10] = [
-    [2, 0, 1, 0, 0, 0], // 0: condition
-    [3, 2, 4, 0, 0, 0], // 1: choice
-    [4, 1, 3, 0, 0, 0], // 2: sum
-    [6, 0, 6, 0, 0, 0], // 3: delay
-    [5, 1, 0, 2, 0, 5], // 4: action
-    [6, 0, 7, 0, 0, 0], // 5: delay
-    [1, 0, 0, 0, 0, 0], // 6: call
-    [1, 0, 1, 0, 0, 0], // 7: call
-    [6, 0, 9, 0, 0, 0], // 8: delay
-    [1, 1, 0, 0, 0, 0], // 9: call
-];
-
-const ARGUMENTS: [u16; 4] = [3, 0, 0, 0];
-
-fn all_kinds(heap: Global) -> Result<Vec<u16>, AllocError> {
-    let mut words = HEAD.to_vec(heap)?;
-    for node in NODES {
-        words.extend_from_slice(&node)?;
-    }
-    words.extend_from_slice(&ARGUMENTS)?;
-    Ok(words)
-}
-
 // What becomes of the file with this word in place of the one there.
 fn changed(heap: Global, at: usize, word: u16) -> Result<(u16, u16, u16), AllocError> {
     let mut words = all_kinds(heap)?;
@@ -151,111 +124,22 @@ fn once_refused(rt: LibcRuntime) -> Result<(), Fail> {
 #[test]
 fn calls_elsewhere(rt: LibcRuntime) -> Result<(), Fail> {
     let heap = rt.alloc();
+    let body = [[4, 0, 1, 0, 0, 0], [6, 0, 2, 0, 0, 0], [1, 0, 0, 0, 0, 0]];
+    check_eq(of_nodes(heap, 3, &body)?, (0, 0, 0))?;
     check_eq(
-        of_words(heap, &[0, 1, 0, 0, 0, 0, 1, 0, 1, 1, 0, 0, 0, 0, 0, 0])?,
-        (7, 5, 0),
-    ).note("a call as a body")?;
-    check_eq(
-        of_words(
-            heap,
-            &[
-                0,
-                1,
-                0,
-                0,
-                0,
-                0,
-                1,
-                0,
-                2,
-                2,
-                0,
-                1,
-                0,
-                0,
-                0,
-                1,
-                0,
-                0,
-                0,
-                0,
-                0,
-                0,
-            ],
-        )?,
+        of_nodes(heap, 2, &[[4, 0, 1, 0, 0, 0], [1, 0, 0, 0, 0, 0]])?,
         (7, 5, 1),
-    ).note("a call under a condition")?;
-    check_eq(
-        of_words(
-            heap,
-            &[
-                0,
-                1,
-                0,
-                0,
-                0,
-                0,
-                1,
-                0,
-                4,
-                3,
-                1,
-                2,
-                0,
-                0,
-                0,
-                6,
-                0,
-                3,
-                0,
-                0,
-                0,
-                1,
-                0,
-                0,
-                0,
-                0,
-                0,
-                1,
-                0,
-                0,
-                0,
-                0,
-                0,
-                0,
-            ],
-        )?,
-        (7, 5, 2),
-    ).note("a call under a choice")?;
-    check_eq(
-        of_words(
-            heap,
-            &[
-                1,
-                2,
-                1,
-                0,
-                0,
-                0,
-                0,
-                1,
-                0,
-                2,
-                4,
-                0,
-                1,
-                0,
-                0,
-                0,
-                1,
-                0,
-                0,
-                0,
-                0,
-                0,
-                0,
-            ],
-        )?,
-        (7, 5, 1),
-    ).note("a call under a sum")
+    ).note("under a sum")?;
+    let condition = [[4, 0, 1, 0, 0, 0], [2, 0, 2, 0, 0, 0], [1, 0, 0, 0, 0, 0]];
+    check_eq(of_nodes(heap, 3, &condition)?, (7, 5, 2)).note("under a condition")?;
+    let choice = [
+        [4, 0, 1, 0, 0, 0],
+        [3, 2, 3, 0, 0, 0],
+        [6, 0, 4, 0, 0, 0],
+        [1, 0, 0, 0, 0, 0],
+        [1, 0, 0, 0, 0, 0],
+    ];
+    check_eq(of_nodes(heap, 5, &choice)?, (7, 5, 3)).note("under a choice")?;
+    let bodies = [0, 1, 0, 0, 0, 0, 1, 0, 1, 1, 0, 0, 0, 0, 0, 0];
+    check_eq(of_words(heap, &bodies)?, (7, 5, 0)).note("a body")
 }

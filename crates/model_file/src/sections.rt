@@ -93,9 +93,9 @@ fn check_start(bytes: &[u8], layout: Layout) -> Result<(), ModelFault>
             record: 0,
         });
     }
-    let record1 = layout.process(process);
-    let first = word_at(bytes, record1);
-    let number = word_at(bytes, record1 + 2);
+    let from = layout.process(process);
+    let first = word_at(bytes, from);
+    let number = word_at(bytes, from + 2);
     check_records(
         bytes,
         Part::Value {

@@ -4,6 +4,7 @@ ghost use Rattle.std.specs.Results.{Cases};
 ghost use Rattle.model.specs.Accept.{judged};
 ghost use Rattle.model.specs.File.{fileOf};
 ghost use Rattle.model.specs.Flat.{flat, smallestFlat};
+ghost use Rattle.model.specs.Made.{Made};
 ghost use Rattle.model.specs.WellFormed.{WellFormed};
 ghost use Rattle.std.specs.declared.result.Result.the-variants.{Ok};
 ghost use Rattle.words.specs.Headers.{Iff};
@@ -23,6 +24,7 @@ fn judge(bytes: &[u8]) -> Result<(), ModelFault>
     ensures answer { λ r. ⌜ r ≡ judged (now (bytes .entry)) ⌝ }
     ensures rules { λ r. ⌜ Iff (r ≡ Ok tt) (WellFormed (now (bytes .entry))) ⌝ }
     ensures written { λ r. ⌜ (r ≡ Ok tt → fileOf (flat (now (bytes .entry))) ≡ now (bytes .entry)) ⌝ }
+    ensures lists { λ r. ⌜ (r ≡ Ok tt → Made (flat (now (bytes .entry)))) ⌝ }
 {
     check_sections(bytes)?;
     check_rules(bytes)
@@ -34,6 +36,7 @@ pub fn accept<'a>(draft: Draft<'a>, into: &mut Model<'a>) -> Result<(), ModelFau
     ensures leaves { λ r. ⌜ Cases r (λ _. now (now (into .exit) .bytes) ≡ now (draft .entry .bytes)) (λ _. now (into .exit) ≡ now (into .entry)) ⌝ }
     ensures rules { λ r. ⌜ Iff (r ≡ Ok tt) (WellFormed (now (draft .entry .bytes))) ⌝ }
     ensures written { λ r. ⌜ (r ≡ Ok tt → fileOf (flat (now (draft .entry .bytes))) ≡ now (draft .entry .bytes)) ⌝ }
+    ensures lists { λ r. ⌜ (r ≡ Ok tt → Made (flat (now (draft .entry .bytes)))) ⌝ }
 {
     let Draft { bytes } = draft;
     judge(bytes)?;

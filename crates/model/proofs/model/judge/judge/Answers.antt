@@ -7,4 +7,4 @@ pub returns : need.returns
 returns c =
     let cut = c .in-Continue-check-sections .ensures tt in
     let q = judgement (c .args .bytes .now) (λ i. omega (arith, c .typed .bytes i)) _ (cut .answer) (cut .rules .0 refl) (c .check-rules .ensures .answer) (c .check-rules .ensures .rules) in
-    record { answer = q .answer; rules = q .rules; written = q .whole }
+    record { answer = q .answer; rules = q .rules; written = q .whole; lists = q .lists }
