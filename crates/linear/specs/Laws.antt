@@ -2,14 +2,13 @@
 --     limits E     counts, sizes and the first values are within their limits
 --     named E      each program counter, variable, action and entry is one, and no summand chooses a variable twice
 --     small E      the sizes of each summand's sum variables multiply to at most 65,536
---     lawful E     all of these, and each number of its file is a word
+--     lawful E     all of these
 use mathlib.Core.Bool.{Bool, true, false, not, _&&_, _||_}
 use mathlib.Core.List.{List, [], _∷_, _++_}
 use Prim.Native.Nat.{ℕ, zero, suc, _+_, _*_}
 use lib.Dec.{eqb, ltb, leb}
 use lib.ListN.{length, getD}
 use Rattle.linear.specs.Equations.{Guarded, Acts, Leads, Summand, Vector, Linear}
-use Rattle.linear.specs.Layout.{wordsOf}
 use Rattle.linear.specs.declared.entry.Entry.{Entry}
 
 abbrev pub all : {X : Type 0} → (X → Bool) → List X → Bool
@@ -91,4 +90,4 @@ abbrev pub small : Linear → Bool
 small e = all (smallSums (e .sizes)) (e .actions) && all (smallSums (e .sizes)) (e .delays)
 
 abbrev pub lawful : Linear → Bool
-lawful e = limits e && named e && small e && all (λ w. ltb w 65536) (wordsOf e)
+lawful e = limits e && named e && small e

@@ -160,8 +160,8 @@ headIn bs =
     then (countIn bs head 0 16 5) (λ v.
     then (keptFrom sizeRule bs v 0 7 []) (λ sizes.
     then (countIn bs head 1 256 (7 + 2 * v)) (λ c.
-    then (wordIn bs head (9 + 2 * v)) (λ s.
-    then (keptFrom (valueRule sizes) bs v 0 (11 + 2 * v) []) (λ values.
+    then (wordIn bs head (7 + 2 * v + 2)) (λ s.
+    then (keptFrom (valueRule sizes) bs v 0 (7 + 2 * v + 4) []) (λ values.
     Ok (sizes, c, record { counter = s; values = values }))))))
 
 abbrev pub tableIn : List ℕ → Result Linear LinearFault
@@ -206,3 +206,8 @@ answerOf (Err e) = Err e
 abbrev pub Leaves : {S : Type 0} → Result Linear LinearFault → (S → Linear) → S → S → Type 0
 Leaves (Ok e) equation before after = equation after ≡ e
 Leaves (Err x) equation before after = after ≡ before
+
+-- what a table of fixed size that was read stands for
+abbrev pub mapped : {X Y : Type 0} → (X → Y) → Result X LinearFault → Result Y LinearFault
+mapped f (Ok x) = Ok (f x)
+mapped f (Err e) = Err e

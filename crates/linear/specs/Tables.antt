@@ -2,6 +2,8 @@
 use mathlib.Core.List.{List, map}
 use Prim.Native.Nat.{ℕ}
 use lib.ListN.{take}
+use Rattle.std.specs.declared.option.Option.{Option}
+use Rattle.std.specs.declared.option.Option.the-variants.{Some, None}
 use Rattle.linear.specs.Equations.{Guarded, Acts, Leads, Summand, Vector, Linear}
 use Rattle.linear.specs.declared.entry.Entry.{Entry}
 use Rattle.linear.specs.declared.list.WordList.{WordList}
@@ -42,3 +44,8 @@ equationOf t = record {
   actions = map actionOf (take (t .«action_count») (t .actions));
   delays = map delayOf (take (t .«delay_count») (t .delays));
 }
+
+-- what a part of a table that is there stands for
+abbrev pub shown : {X Y : Type 0} → (X → Y) → Option X → Option Y
+shown f (Some x) = Some (f x)
+shown f None = None

@@ -1,6 +1,5 @@
 // A first lawful equation: no variables, one program counter, no summands.
 ghost use mathlib.Core.Path.{_≡_};
-ghost use mathlib.Core.List.{[]};
 ghost use Rattle.linear.specs.Equations.{smallestOf};
 ghost use Rattle.linear.specs.Tables.{equationOf};
 use crate::entries::EntryList;
@@ -40,13 +39,13 @@ const NO_TARGET: Target = Target {
     },
 };
 
-const NO_ACTION: ActionSummand = ActionSummand {
+pub const NO_ACTION: ActionSummand = ActionSummand {
     guard: NO_GUARD,
     act: NO_ACT,
     target: NO_TARGET,
 };
 
-const NO_DELAY: DelaySummand = DelaySummand {
+pub const NO_DELAY: DelaySummand = DelaySummand {
     guard: NO_GUARD,
     rate: 0,
     target: NO_TARGET,

@@ -19,4 +19,6 @@ pub struct Table {
     pub delay_count: u16,
     ghost actions_full: { length actions ≡ 256 },
     ghost delays_full: { length delays ≡ 256 },
+    ghost few_actions: { «action_count» ≤ 256 },
+    ghost few_delays: { «delay_count» ≤ 256 },
 }
