@@ -1,4 +1,5 @@
 pub mod Cells
 pub mod Files
+pub mod Formats
 pub mod Memos
 pub mod Rules

@@ -2,7 +2,8 @@
 --     IsCell cs e c         cell e of the formula is c
 --     Evaluates cs v e n    cell e has the value n under the valuation v
 --     Reaches cs e k        cell e is cell k, or an operand of cell e reaches it
---     ReadsAs bs l          the file bs holds cells, and the language l has just their values and names
+--     Means cs l            the language l has just the values and names of the cells
+--     ReadsAs bs l          the file bs holds cells, no word of it read as another, and l has their meaning
 use mathlib.Core.Path.{_≡_}
 use mathlib.Core.Bool.{true}
 use mathlib.Core.List.{List}
@@ -12,6 +13,7 @@ use Rattle.std.specs.declared.result.Result.the-variants.{Ok}
 use Rattle.words.specs.Headers.{Iff}
 use Rattle.language.specs.Meanings.{Meaning, valueAt, AtMost}
 use Rattle.formula.specs.Files.{formulaFile}
+use Rattle.formula.specs.Formats.{formulaBytes}
 use Rattle.formula.specs.declared.cell.Operation.{Operation}
 use Rattle.formula.specs.declared.cell.Operation.the-variants.{Sum, Difference, Product, Equal, Less}
 use Rattle.formula.specs.declared.cell.Cell.{Cell}
@@ -48,5 +50,11 @@ pub record Means (cs : List Cell) (l : Meaning) : Type 0 where
   -- a formula names the variables in the cells that it reaches
   pub names : (e x : ℕ) → e < length cs → Iff (l .names e x ≡ true) ((k : ℕ) × (Reaches cs e k × IsCell cs k (Variable x)))
 
+-- the file bs holds the cells cs: they are read from it, it is written down from them, and the language l has their values and names
+pub record Reads (bs : List ℕ) (cs : List Cell) (l : Meaning) : Type 0 where
+  pub file : formulaFile bs ≡ Ok cs
+  pub bytes : bs ≡ formulaBytes cs
+  pub means : Means cs l
+
 abbrev pub ReadsAs : List ℕ → Meaning → Type 0
-ReadsAs bs l = (cs : List Cell) × ((formulaFile bs ≡ Ok cs) × Means cs l)
+ReadsAs bs l = (cs : List Cell) × Reads bs cs l

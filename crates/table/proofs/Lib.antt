@@ -1,3 +1,4 @@
+pub mod Formats
 pub mod Laws
 pub mod Meant
 pub mod Ruled

@@ -11,12 +11,16 @@ use Rattle.std.proofs.shelf.Lists.{length-take-le, getD-take}
 use Rattle.std.proofs.shelf.Tests.{cases-lt, cond-true, cond-false, eq-eqb, eqb-true, lt-ltb, le-ltb, or-cases, or-left, or-right}
 use Rattle.std.specs.declared.result.Result.{Result}
 use Rattle.std.specs.declared.result.Result.the-variants.{Ok}
+use Rattle.std.proofs.shelf.Results.{made-at-ok}
+use Rattle.words.specs.Words.{Bytes}
 use Rattle.language.specs.Files.{then}
 use Rattle.language.specs.Meanings.{Meaning, word, AtMost, valueAt}
 use Rattle.language.proofs.Largest.{word-at-most, at-most-word}
 use Rattle.table.specs.Files.{Contents, tableFile, tableLanguage}
+use Rattle.table.specs.Formats.{tableBytes}
+use Rattle.table.proofs.Formats.{file-bytes}
 use Rattle.table.specs.Records.{noRecord, recordAt, placeOf, entryAt, tableValue, tableNames, meaningOf}
-use Rattle.table.specs.Rules.{IsRecord, LooksUp, entry, none, Means, ReadsAs}
+use Rattle.table.specs.Rules.{IsRecord, LooksUp, entry, none, Means, Reads, ReadsAs}
 use Rattle.table.specs.declared.record.Record.{Record}
 
 looks-up : (es : List ℕ) (r : Record) (v : List ℕ) → LooksUp es r v (entryAt es (length es) (placeOf r v))
@@ -83,11 +87,11 @@ module _ (rs : List Record) (n : ℕ) (es : List ℕ) (t : ℕ) where
       ap (λ g. record { count = n; value = g; names = tableNames (take n rs) n }) values
       ∙ ap (λ g. record { count = n; value = tableValue rs n es t; names = g }) named
 
-pub read-as : (bs : List ℕ) (rs : List Record) (n : ℕ) (es : List ℕ) (t : ℕ) → n ≤ length rs → t ≤ length es → tableFile bs ≡ Ok (record { records = take n rs; values = take t es }) → (tableLanguage bs ≡ Ok (meaningOf rs n es t)) × ReadsAs bs (meaningOf rs n es t)
-read-as bs rs n es t few short file =
+pub read-as : (bs : List ℕ) (rs : List Record) (n : ℕ) (es : List ℕ) (t : ℕ) → n ≤ length rs → t ≤ length es → Bytes bs → tableFile bs ≡ Ok (record { records = take n rs; values = take t es }) → (tableLanguage bs ≡ Ok (meaningOf rs n es t)) × ReadsAs bs (meaningOf rs n es t)
+read-as bs rs n es t few short low file =
     let f : Contents = record { records = take n rs; values = take t es } in
     let same : l f ≡ meaningOf rs n es t =
     ap (λ k. meaningOf (take n rs) k (take t es) (length (take t es))) (length-take-le n rs few) ∙ ap (λ k. meaningOf (take n rs) n (take t es) k) (length-take-le t es short) ∙ meaning-front rs n es t in (
       ap (λ r. then r (λ (g : Contents). Ok (l g))) file ∙ ap Ok same,
-      (f, (file, subst (Means f) same (means f))),
+      (f, record { file = file; bytes = made-at-ok (λ g. bs ≡ tableBytes g) file (file-bytes bs low); means = subst (Means f) same (means f) }),
     )

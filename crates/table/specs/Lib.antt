@@ -1,3 +1,4 @@
 pub mod Files
+pub mod Formats
 pub mod Records
 pub mod Rules

@@ -1,6 +1,7 @@
 -- What a table means, in words.
 --     LooksUp es r v n   the record r finds n among the values es under the valuation v
---     ReadsAs bs l       the file bs holds records and values, and the language l has just what they look up and name
+--     Means f l          the language l has just what the records of f look up and name
+--     ReadsAs bs l       the file bs holds records and values, no word of it read as another, and l has their meaning
 use mathlib.Core.Path.{_≡_}
 use mathlib.Core.Bool.{true}
 use mathlib.Core.List.{List}
@@ -11,6 +12,7 @@ use Rattle.std.specs.declared.result.Result.the-variants.{Ok}
 use Rattle.words.specs.Headers.{Iff}
 use Rattle.language.specs.Meanings.{Meaning, valueAt, AtMost}
 use Rattle.table.specs.Files.{Contents, tableFile}
+use Rattle.table.specs.Formats.{tableBytes}
 use Rattle.table.specs.Records.{noRecord}
 use Rattle.table.specs.declared.record.Record.{Record}
 
@@ -26,5 +28,11 @@ pub record Means (f : Contents) (l : Meaning) : Type 0 where
   pub value : (e : ℕ) (r : Record) → IsRecord (f .records) e r → (v : List ℕ) (n : ℕ) → Iff (l .value e v ≡ n) (LooksUp (f .values) r v n)
   pub names : (e : ℕ) (r : Record) → IsRecord (f .records) e r → (x : ℕ) → Iff (l .names e x ≡ true) ((r .a ≡ x) ⊎ (r .b ≡ x))
 
+-- the file bs holds f: that is read from it, it is written down from that, and the language l has its meaning
+pub record Reads (bs : List ℕ) (f : Contents) (l : Meaning) : Type 0 where
+  pub file : tableFile bs ≡ Ok f
+  pub bytes : bs ≡ tableBytes f
+  pub means : Means f l
+
 abbrev pub ReadsAs : List ℕ → Meaning → Type 0
-ReadsAs bs l = (f : Contents) × ((tableFile bs ≡ Ok f) × Means f l)
+ReadsAs bs l = (f : Contents) × Reads bs f l

@@ -9,7 +9,7 @@ use lib.ListN.{length, getD, drop}
 use Rattle.std.proofs.shelf.Ways.{tells}
 use Rattle.std.specs.declared.result.Result.{Result}
 use Rattle.std.specs.declared.result.Result.the-variants.{Ok, Err}
-use Rattle.words.specs.Words.{longAt}
+use Rattle.words.specs.Words.{longAt, Bytes}
 use Rattle.words.specs.Headers.{headerOf, headed, fourBytes, Iff}
 use Rattle.words.specs.declared.header.HeaderFault.{HeaderFault}
 use Rattle.words.specs.declared.header.HeaderFault.the-variants.{Version, Length}
@@ -23,7 +23,7 @@ pub record Tested (bs : List ℕ) (r : Result (Unit {0}) HeaderFault) : Type 0 w
   pub answer : r ≡ headerOf bs
   pub rules : Iff (r ≡ Ok tt) (bs ≡ headed (drop 5 bs))
 
-accepted : (a b c d e : ℕ) (rest : List ℕ) → ((i : ℕ) → getD (a ∷ (b ∷ (c ∷ (d ∷ (e ∷ rest))))) i 0 < 256) → headerOf (a ∷ (b ∷ (c ∷ (d ∷ (e ∷ rest))))) ≡ Ok tt → a ∷ (b ∷ (c ∷ (d ∷ (e ∷ rest)))) ≡ headed rest
+accepted : (a b c d e : ℕ) (rest : List ℕ) → Bytes (a ∷ (b ∷ (c ∷ (d ∷ (e ∷ rest))))) → headerOf (a ∷ (b ∷ (c ∷ (d ∷ (e ∷ rest))))) ≡ Ok tt → a ∷ (b ∷ (c ∷ (d ∷ (e ∷ rest)))) ≡ headed rest
 accepted a b c d e rest low is =
     let v : a ≡ 1 = grind (arith, tells) in
     let n : (b * 256 + c) * 65536 + (d * 256 + e) ≡ length rest = grind (arith, tells) in
@@ -34,7 +34,7 @@ accepted a b c d e rest low is =
     let qe = q .3 in
     cc
 
-given : (a b c d e : ℕ) (rest : List ℕ) → ((i : ℕ) → getD (a ∷ (b ∷ (c ∷ (d ∷ (e ∷ rest))))) i 0 < 256) → a ∷ (b ∷ (c ∷ (d ∷ (e ∷ rest)))) ≡ headed rest → headerOf (a ∷ (b ∷ (c ∷ (d ∷ (e ∷ rest))))) ≡ Ok tt
+given : (a b c d e : ℕ) (rest : List ℕ) → Bytes (a ∷ (b ∷ (c ∷ (d ∷ (e ∷ rest))))) → a ∷ (b ∷ (c ∷ (d ∷ (e ∷ rest)))) ≡ headed rest → headerOf (a ∷ (b ∷ (c ∷ (d ∷ (e ∷ rest))))) ≡ Ok tt
 given a b c d e rest low is =
     let n = length rest in
     let at : (i : ℕ) → getD (a ∷ (b ∷ (c ∷ (d ∷ (e ∷ rest))))) i 0 ≡ getD (headed rest) i 0 = λ i. ap (λ bs. getD bs i 0) is in
@@ -54,7 +54,7 @@ short bs low is = let long : length bs ≡ length (headed (drop 5 bs)) = ap leng
 refused : (bs : List ℕ) → length bs < 5 → headerOf bs ≡ Ok tt → ⊥
 refused bs low is = grind (arith, tells)
 
-pub header-rules : (bs : List ℕ) → ((i : ℕ) → getD bs i 0 < 256) → Iff (headerOf bs ≡ Ok tt) (bs ≡ headed (drop 5 bs))
+pub header-rules : (bs : List ℕ) → Bytes bs → Iff (headerOf bs ≡ Ok tt) (bs ≡ headed (drop 5 bs))
 header-rules [] low = (λ is. absurd (refused [] (omega arith) is), λ is. absurd (short [] (omega arith) is))
 header-rules (a ∷ []) low = (λ is. absurd (refused (a ∷ []) (omega arith) is), λ is. absurd (short (a ∷ []) (omega arith) is))
 header-rules (a ∷ (b ∷ [])) low = (λ is. absurd (refused (a ∷ (b ∷ [])) (omega arith) is), λ is. absurd (short (a ∷ (b ∷ [])) (omega arith) is))
@@ -62,7 +62,7 @@ header-rules (a ∷ (b ∷ (c ∷ []))) low = (λ is. absurd (refused (a ∷ (b 
 header-rules (a ∷ (b ∷ (c ∷ (d ∷ [])))) low = (λ is. absurd (refused (a ∷ (b ∷ (c ∷ (d ∷ [])))) (omega arith) is), λ is. absurd (short (a ∷ (b ∷ (c ∷ (d ∷ [])))) (omega arith) is))
 header-rules (a ∷ (b ∷ (c ∷ (d ∷ (e ∷ rest))))) low = (accepted a b c d e rest low, given a b c d e rest low)
 
-pub tested : (bs : List ℕ) (r : Result (Unit {0}) HeaderFault) → ((i : ℕ) → getD bs i 0 < 256) → r ≡ headerOf bs → Tested bs r
+pub tested : (bs : List ℕ) (r : Result (Unit {0}) HeaderFault) → Bytes bs → r ≡ headerOf bs → Tested bs r
 tested bs r low is =
     let rules = header-rules bs low in
     record { answer = is; rules = (λ ok. rules .0 (sym is ∙ ok), λ whole. is ∙ rules .1 whole) }

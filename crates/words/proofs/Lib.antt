@@ -1,1 +1,2 @@
 pub mod Headed
+pub mod Runs

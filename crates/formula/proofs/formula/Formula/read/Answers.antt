@@ -14,5 +14,5 @@ returns c =
     let cells = c .in-Continue-cells .cells in
     let file : formulaFile (c .args .bytes .now) ≡ Ok (take n cells) = search needs in
     let long : n ≤ length cells = omega arith in
-    let r = read-as (c .args .bytes .now) cells n long (c .in-Continue-cells .ensures tt .answer .1) file in
+    let r = read-as (c .args .bytes .now) cells n long (c .in-Continue-cells .ensures tt .answer .1) (λ i. omega (arith, c .typed .bytes i)) file in
     record { answer = r .0; rules = r .1 }

@@ -17,5 +17,5 @@ returns c =
     let file : tableFile (c .args .bytes .now) ≡ Ok (record { records = take n rs; values = take t es }) = search needs in
     let few : n ≤ length rs = omega arith in
     let short : t ≤ length es = omega arith in
-    let r = read-as (c .args .bytes .now) rs n es t few short file in
+    let r = read-as (c .args .bytes .now) rs n es t few short (λ i. omega (arith, c .typed .bytes i)) file in
     record { answer = r .0; rules = r .1 }
