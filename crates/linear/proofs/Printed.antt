@@ -14,12 +14,12 @@ use Rattle.std.specs.declared.option.Option.the-variants.{Some, None}
 use Rattle.std.specs.declared.result.Result.{Result}
 use Rattle.std.specs.declared.result.Result.the-variants.{Ok, Err}
 use Rattle.words.specs.Headers.{headerOf, headed}
-use Rattle.words.specs.Words.{wordAt}
+use Rattle.words.specs.Words.{wordAt, bytesOf, Bytes}
 use Rattle.words.proofs.Headed.{header-rules}
 use Rattle.linear.specs.Equations.{Guarded, Acts, Leads, Summand, Vector, Linear}
 use Rattle.linear.specs.Faults.{at, head}
 use Rattle.linear.specs.Laws.{all, within, fitted, fewGuard, fewAction, fewDelay, limits, namedAction, namedDelay, named, smallSums, small, lawful}
-use Rattle.linear.specs.Layout.{counted, guardWords, actsWords, rateWords, entryWords, leadsWords, summandWords, sectionWords, headWords, wordsOf, bytesOf, fileOf}
+use Rattle.linear.specs.Layout.{counted, guardWords, actsWords, rateWords, entryWords, leadsWords, summandWords, sectionWords, headWords, wordsOf, fileOf}
 use Rattle.linear.specs.Reading.{then, past, orLinearFault, wordIn, wordsFrom, wordsIn, countIn, listIn, guardIn, actsIn, rateIn, entryOf, also, entriesFrom, orNoEntries, leadsIn, summandIn, summandEnd, summandsFrom, sectionIn, actionsIn, delaysIn, keptFrom, sizeRule, valueRule, headIn, tableIn, failsFrom, namedIn, productsIn, linearFile}
 use Rattle.linear.specs.declared.entry.Entry.{Entry}
 use Rattle.linear.specs.declared.entry.Entry.the-variants.{Reset, Keep, Take}
@@ -28,7 +28,7 @@ use Rattle.linear.specs.declared.fault.Group.the-variants.{Head, Actions, Dela
 use Rattle.linear.specs.declared.fault.Place.{Place}
 use Rattle.linear.specs.declared.fault.LinearFault.{LinearFault}
 use Rattle.linear.specs.declared.fault.LinearFault.the-variants.{Length, Limit, Misnamed, Product}
-use Rattle.linear.proofs.Shows.{Shows, Bytes, shows-at, shows-front, shows-back, shows-room, bytes-show, length-bytes}
+use Rattle.linear.proofs.Shows.{Shows, shows-at, shows-front, shows-back, shows-room, bytes-show, length-bytes}
 use Rattle.linear.proofs.Steps.{then-ok}
 use Rattle.linear.proofs.Parsed.{length-entries}
 use Rattle.linear.proofs.Wholes.{all-weaker, entered, end-is, keepsFrom, sizes-kept, values-kept, action-entered, delay-entered}

@@ -1,6 +1,5 @@
 -- Bytes that show certain words from a position on. Assumes nothing.
 --     Shows bs p ws   the words ws stand in bs from p on
---     Bytes bs        each number of the list is a byte
 use mathlib.Core.Path.{_≡_, refl, sym, ap, subst, _∙_}
 use mathlib.Core.Bool.{Bool, true, false}
 use mathlib.Core.List.{List, [], _∷_, _++_}
@@ -10,17 +9,13 @@ use lib.Dec.{ltb}
 use lib.ListN.{length, getD, drop}
 use Rattle.std.proofs.shelf.Lists.{getD-drop, drop-drop, drop-more, drop-all, length-drop, length-append}
 use Rattle.std.proofs.shelf.Tests.{and-parts, and-from, ltb-true, lt-ltb}
-use Rattle.words.specs.Words.{wordAt}
+use Rattle.words.specs.Words.{wordAt, bytesOf, Bytes}
 use Rattle.linear.specs.Laws.{all}
-use Rattle.linear.specs.Layout.{bytesOf}
 use Rattle.linear.specs.Reading.{past}
 
 abbrev pub Shows : List ℕ → ℕ → List ℕ → Type 0
 Shows bs p [] = Unit {0}
 Shows bs p (w ∷ ws) = (p + 2 ≤ length bs) × (wordAt bs p ≡ w) × Shows bs (p + 2) ws
-
-abbrev pub Bytes : List ℕ → Type 0
-Bytes bs = (i : ℕ) → getD bs i 0 < 256
 
 pub shows-at : (bs ws : List ℕ) (p q : ℕ) → p ≡ q → Shows bs p ws → Shows bs q ws
 shows-at bs ws p q e h = let P : ℕ → Type 0 = λ n. Shows bs n ws in subst P e h

@@ -13,20 +13,20 @@ use Rattle.std.proofs.shelf.Tests.{and-parts, and-from, leb-true, le-leb, eqb-t
 use Rattle.std.specs.declared.result.Result.{Result}
 use Rattle.std.specs.declared.result.Result.the-variants.{Ok, Err}
 use Rattle.words.specs.Headers.{headerOf, headed}
-use Rattle.words.specs.Words.{wordAt}
+use Rattle.words.specs.Words.{wordAt, bytesOf, Bytes}
 use Rattle.words.specs.declared.header.HeaderFault.{HeaderFault}
 use Rattle.words.proofs.Headed.{header-rules}
 use Rattle.linear.specs.Equations.{Guarded, Acts, Leads, Summand, Vector, Linear}
 use Rattle.linear.specs.Faults.{at, head}
 use Rattle.linear.specs.Laws.{all, within, fitted, fewGuard, fewAction, fewDelay, limits, namedGuard, namedLeads, namedActs, namedAction, namedDelay, named, smallSums, small, lawful}
-use Rattle.linear.specs.Layout.{counted, guardWords, actsWords, rateWords, leadsWords, entryWords, summandWords, sectionWords, headWords, wordsOf, bytesOf, fileOf}
+use Rattle.linear.specs.Layout.{counted, guardWords, actsWords, rateWords, leadsWords, entryWords, summandWords, sectionWords, headWords, wordsOf, fileOf}
 use Rattle.linear.specs.Reading.{then, past, orLinearFault, wordIn, countIn, guardIn, actsIn, rateIn, leadsIn, summandIn, summandEnd, summandsFrom, sectionIn, actionsIn, delaysIn, keptFrom, sizeRule, valueRule, headIn, tableIn, failsFrom, namedIn, productsIn, linearFile}
 use Rattle.linear.specs.declared.fault.Group.{Group}
 use Rattle.linear.specs.declared.fault.Group.the-variants.{Head, Actions, Delays}
 use Rattle.linear.specs.declared.fault.Place.{Place}
 use Rattle.linear.specs.declared.fault.LinearFault.{LinearFault}
 use Rattle.linear.specs.declared.fault.LinearFault.the-variants.{Length, Limit, Misnamed, Product}
-use Rattle.linear.proofs.Shows.{Shows, Bytes, shows-at, shows-join, show-bytes}
+use Rattle.linear.proofs.Shows.{Shows, shows-at, shows-join, show-bytes}
 use Rattle.linear.proofs.Parsed.{then-inv, cond-inv, ok-inv, word-shown, count-shown, guard-shown, acts-shown, rate-shown, leads-shown, length-entries}
 
 pub all-back : {X : Type 0} (p : X → Bool) (xs ys : List X) → all p (xs ++ ys) ≡ true → all p ys ≡ true

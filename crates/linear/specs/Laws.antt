@@ -3,12 +3,15 @@
 --     named E      each program counter, variable, action and entry is one, and no summand chooses a variable twice
 --     small E      the sizes of each summand's sum variables multiply to at most 65,536
 --     lawful E     all of these
+--     IsFile bs    the bytes are the file of a lawful equation
+use mathlib.Core.Path.{_≡_}
 use mathlib.Core.Bool.{Bool, true, false, not, _&&_, _||_}
 use mathlib.Core.List.{List, [], _∷_, _++_}
 use Prim.Native.Nat.{ℕ, zero, suc, _+_, _*_}
 use lib.Dec.{eqb, ltb, leb}
 use lib.ListN.{length, getD}
 use Rattle.linear.specs.Equations.{Guarded, Acts, Leads, Summand, Vector, Linear}
+use Rattle.linear.specs.Layout.{fileOf}
 use Rattle.linear.specs.declared.entry.Entry.{Entry}
 
 abbrev pub all : {X : Type 0} → (X → Bool) → List X → Bool
@@ -91,3 +94,6 @@ small e = all (smallSums (e .sizes)) (e .actions) && all (smallSums (e .sizes)) 
 
 abbrev pub lawful : Linear → Bool
 lawful e = limits e && named e && small e
+
+abbrev pub IsFile : List ℕ → Type 0
+IsFile bs = (e : Linear) × ((lawful e ≡ true) × (bs ≡ fileOf e))

@@ -4,10 +4,11 @@
 --                  a count and the action summands, a count and the delay summands
 --     fileOf E     the file
 use mathlib.Core.List.{List, [], _∷_, _++_}
-use Prim.Native.Nat.{ℕ, _/_, _%_}
+use Prim.Native.Nat.{ℕ}
 use lib.ListN.{length}
 use Rattle.std.specs.shelf.Lists.{joined}
 use Rattle.words.specs.Headers.{headed}
+use Rattle.words.specs.Words.{bytesOf}
 use Rattle.linear.specs.Equations.{Guarded, Acts, Leads, Summand, Vector, Linear}
 use Rattle.linear.specs.declared.entry.Entry.{Entry}
 use Rattle.linear.specs.declared.entry.Entry.the-variants.{Reset, Keep, Take}
@@ -43,11 +44,6 @@ headWords e = counted (e .sizes) ++ (e .counters ∷ (e .first .counter ∷ e .f
 
 abbrev pub wordsOf : Linear → List ℕ
 wordsOf e = headWords e ++ (sectionWords actsWords (e .actions) ++ sectionWords rateWords (e .delays))
-
--- words as bytes, high byte first
-abbrev pub bytesOf : List ℕ → List ℕ
-bytesOf [] = []
-bytesOf (w ∷ ws) = w / 256 ∷ (w % 256 ∷ bytesOf ws)
 
 abbrev pub fileOf : Linear → List ℕ
 fileOf e = headed (bytesOf (wordsOf e))

@@ -1,4 +1,5 @@
 // Linear equations: their type, lawful by construction, and the definition of their files.
+mod entering;
 mod entries;
 mod entry;
 mod equation;
