@@ -178,7 +178,7 @@ head-shown bs sizes c first h =
       sized = ap (all (within 1 256)) nz ∙ (sym (sizes-kept 0 (s .0)) ∙ s .1 .1 .1 .1);
       counters = b .2;
       fits = ap (fitted ns) tz ∙ (sym (values-kept ns (t .0) (t .1 .1 .0 ∙ sym nlong)) ∙ t .1 .1 .1 .1);
-      long = tlong ∙ sym nlong
+      long = tlong ∙ sym nlong;
     } in
     let P : List ℕ × ℕ × Vector → Type 0 = λ y. HeadShown bs (y .0) (y .1) (y .2) in
     subst P same whole
@@ -254,8 +254,8 @@ table-shown bs low e h ok =
     let room = leb-true (length ds-read) (256 - length as-read) (d .1 .1 .1) in
     let room1 = leb-true (length as-read) 256 (a .1 .1 .1) in
     let kept : limits made ≡ true =
-      and-from _ _ (and-from _ _ (and-from _ _ (and-from _ _ (and-from _ _ (and-from _ _ (hs .few) (hs .sized)) (hs .counters)) (hs .fits)) (le-leb (length as-read + length ds-read) 256 (omega arith))) (a .1 .1 .0))
-      (all-weaker (λ s. fewGuard (s .when) && true) fewDelay (λ s q. and-parts (fewGuard (s .when)) true q .0) ds-read (d .1 .1 .0)) in
+    and-from _ _ (and-from _ _ (and-from _ _ (and-from _ _ (and-from _ _ (and-from _ _ (hs .few) (hs .sized)) (hs .counters)) (hs .fits)) (le-leb (length as-read + length ds-read) 256 (omega arith))) (a .1 .1 .0))
+    (all-weaker (λ s. fewGuard (s .when) && true) fewDelay (λ s q. and-parts (fewGuard (s .when)) true q .0) ds-read (d .1 .1 .0)) in
     let P : Linear → Type 0 = λ y. (bs ≡ fileOf y) × (limits y ≡ true) in
     subst P same (whole, kept)
 

@@ -87,6 +87,7 @@ ok-some (Ok x) h = (x, refl)
 ok-some (Err x) h = let z : _≡_ {A = ℕ} 0 1 = cc in absurd (omega arith)
 
 pub read-rules : (bs : List ℕ) → Bytes bs → (r : Result (Unit {0}) LinearFault) → r ≡ answerOf (linearFile bs) → Iff (r ≡ Ok tt) (IsFile bs)
-read-rules bs low r is =
-    (λ ok. let s = ok-some (linearFile bs) (sym is ∙ ok) in let w = read-whole bs low (s .0) (s .1) in (s .0, w),
-     λ f. let P : List ℕ → Type 0 = λ b. linearFile b ≡ Ok (f .0) in let B : List ℕ → Type 0 = λ b. Bytes b in let back = subst P (sym (f .1 .1)) (written-reads (f .0) (subst B (f .1 .1) low) (f .1 .0)) in is ∙ ap answerOf back)
+read-rules bs low r is = (
+  λ ok. let s = ok-some (linearFile bs) (sym is ∙ ok) in let w = read-whole bs low (s .0) (s .1) in (s .0, w),
+  λ f. let P : List ℕ → Type 0 = λ b. linearFile b ≡ Ok (f .0) in let B : List ℕ → Type 0 = λ b. Bytes b in let back = subst P (sym (f .1 .1)) (written-reads (f .0) (subst B (f .1 .1) low) (f .1 .0)) in is ∙ ap answerOf back,
+)

@@ -55,7 +55,13 @@ fn actions_keep(table: &Table, rule: Rule) -> Result<(), LinearFault>
     let mut k = 0;
     while let Some(summand) = table.action(k) {
         if !action_keeps(table, rule, &summand) {
-            return Err(fault_of(rule, Place { group: Group::Actions, summand: k }));
+            return Err(fault_of(
+                rule,
+                Place {
+                    group: Group::Actions,
+                    summand: k,
+                },
+            ));
         }
         k += 1;
     }
@@ -69,7 +75,13 @@ fn delays_keep(table: &Table, rule: Rule) -> Result<(), LinearFault>
     let mut k = 0;
     while let Some(summand) = table.delay(k) {
         if !delay_keeps(table, rule, &summand) {
-            return Err(fault_of(rule, Place { group: Group::Delays, summand: k }));
+            return Err(fault_of(
+                rule,
+                Place {
+                    group: Group::Delays,
+                    summand: k,
+                },
+            ));
         }
         k += 1;
     }

@@ -51,7 +51,12 @@ fn entries_from(bytes: &[u8], at: usize, count: u16) -> EntryList
 }
 
 // The next program counter, and an entry for each variable.
-pub(crate) fn target_in(bytes: &[u8], place: Place, variables: u16, at: usize) -> Result<Target, LinearFault>
+pub(crate) fn target_in(
+    bytes: &[u8],
+    place: Place,
+    variables: u16,
+    at: usize,
+) -> Result<Target, LinearFault>
     requires { ⌜ at ≤ length (now bytes) ⌝ ∗ ⌜ variables ≤ 16 ⌝ }
     ensures answer { λ r. ⌜ mapped targetOf r ≡ leadsIn (now (bytes .entry)) place variables at ⌝ }
     ensures room { λ r. ⌜ made r (λ _. at + 2 + 4 * variables ≤ length (now (bytes .entry))) ⌝ }

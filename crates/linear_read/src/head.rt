@@ -14,7 +14,10 @@ use linear::LinearFault;
 use linear::Place;
 use linear::WordList;
 
-pub(crate) const HEAD: Place = Place { group: Group::Head, summand: 0 };
+pub(crate) const HEAD: Place = Place {
+    group: Group::Head,
+    summand: 0,
+};
 
 // What each word of a list in the head keeps.
 #[derive(Clone, Copy)]

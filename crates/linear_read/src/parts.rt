@@ -22,7 +22,11 @@ pub(crate) fn guard_in(bytes: &[u8], place: Place, at: usize) -> Result<Guard, L
     let counter = word_in(bytes, place, at)?;
     let sums = list_in(bytes, place, 8, at + 2)?;
     let conditions = list_in(bytes, place, 8, at + 4 + 2 * sums.length() as usize)?;
-    Ok(Guard { counter, sums, conditions })
+    Ok(Guard {
+        counter,
+        sums,
+        conditions,
+    })
 }
 
 // An action, its arguments, its variable and its weight.

@@ -14,6 +14,7 @@ use linear::Target;
 use linear::WordList;
 
 const LAST_ACTION: u16 = 63;
+
 const MOST_VALUES: u32 = 65536;
 
 // A rule that is held against all summands.
@@ -63,7 +64,10 @@ fn all_distinct(list: &WordList) -> bool
 fn named_guard(guard: &Guard, variables: u16, counters: u16) -> bool
     ensures answer { λ r. ⌜ r ≡ namedGuard variables counters (guardOf (now (guard .entry))) ⌝ }
 {
-    guard.counter >= 1 && guard.counter <= counters && all_below(&guard.sums, variables) && all_distinct(&guard.sums)
+    guard.counter >= 1
+        && guard.counter <= counters
+        && all_below(&guard.sums, variables)
+        && all_distinct(&guard.sums)
 }
 
 fn named_act(act: &Act, sums: &WordList, variables: u16) -> bool
@@ -89,7 +93,8 @@ pub(crate) fn named_action(summand: &ActionSummand, variables: u16, counters: u1
 pub(crate) fn named_delay(summand: &DelaySummand, variables: u16, counters: u16) -> bool
     ensures answer { λ r. ⌜ r ≡ namedDelay variables counters (delayOf (now (summand .entry))) ⌝ }
 {
-    named_guard(&summand.guard, variables, counters) && named_target(&summand.target, variables, counters)
+    named_guard(&summand.guard, variables, counters)
+        && named_target(&summand.target, variables, counters)
 }
 
 // The size of a variable; one that is none counts as of size 1.

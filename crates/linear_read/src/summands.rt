@@ -16,7 +16,12 @@ use linear::LinearFault;
 use linear::Place;
 
 // A summand that acts.
-pub(crate) fn action_in(bytes: &[u8], variables: u16, place: Place, at: usize) -> Result<ActionSummand, LinearFault>
+pub(crate) fn action_in(
+    bytes: &[u8],
+    variables: u16,
+    place: Place,
+    at: usize,
+) -> Result<ActionSummand, LinearFault>
     requires { ⌜ at ≤ length (now bytes) ⌝ ∗ ⌜ variables ≤ 16 ⌝ }
     ensures answer { λ r. ⌜ mapped actionOf r ≡ summandIn actsIn actsWords (now (bytes .entry)) variables place at ⌝ }
     ensures room { λ r. ⌜ made r (λ s. summandEnd actsIn actsWords variables at (actionOf s) ≤ length (now (bytes .entry))) ⌝ }
@@ -29,7 +34,12 @@ pub(crate) fn action_in(bytes: &[u8], variables: u16, place: Place, at: usize) -
 }
 
 // A summand that waits.
-pub(crate) fn delay_in(bytes: &[u8], variables: u16, place: Place, at: usize) -> Result<DelaySummand, LinearFault>
+pub(crate) fn delay_in(
+    bytes: &[u8],
+    variables: u16,
+    place: Place,
+    at: usize,
+) -> Result<DelaySummand, LinearFault>
     requires { ⌜ at ≤ length (now bytes) ⌝ ∗ ⌜ variables ≤ 16 ⌝ }
     ensures answer { λ r. ⌜ mapped delayOf r ≡ summandIn rateIn rateWords (now (bytes .entry)) variables place at ⌝ }
     ensures room { λ r. ⌜ made r (λ s. summandEnd rateIn rateWords variables at (delayOf s) ≤ length (now (bytes .entry))) ⌝ }
@@ -38,5 +48,9 @@ pub(crate) fn delay_in(bytes: &[u8], variables: u16, place: Place, at: usize) ->
     let rest = at + guard.span();
     let rate = word_in(bytes, place, rest)?;
     let target = target_in(bytes, place, variables, rest + 2)?;
-    Ok(DelaySummand { guard, rate, target })
+    Ok(DelaySummand {
+        guard,
+        rate,
+        target,
+    })
 }

@@ -23,7 +23,13 @@ pub(crate) fn word_in(bytes: &[u8], place: Place, at: usize) -> Result<u16, Line
 }
 
 // The count at `at`, between `low` and `high`.
-pub(crate) fn count_in(bytes: &[u8], place: Place, low: u16, high: u16, at: usize) -> Result<u16, LinearFault>
+pub(crate) fn count_in(
+    bytes: &[u8],
+    place: Place,
+    low: u16,
+    high: u16,
+    at: usize,
+) -> Result<u16, LinearFault>
     requires { ⌜ at ≤ length (now bytes) ⌝ }
     ensures answer { λ r. ⌜ r ≡ countIn (now (bytes .entry)) place low high at ⌝ }
     ensures room { λ r. ⌜ made r (λ n. (at + 2 ≤ length (now (bytes .entry))) × (n ≤ high)) ⌝ }
@@ -49,7 +55,12 @@ fn words_from(bytes: &[u8], at: usize, count: u16) -> WordList
 }
 
 // The list at `at` with its count in front, of at most `high` words.
-pub(crate) fn list_in(bytes: &[u8], place: Place, high: u16, at: usize) -> Result<WordList, LinearFault>
+pub(crate) fn list_in(
+    bytes: &[u8],
+    place: Place,
+    high: u16,
+    at: usize,
+) -> Result<WordList, LinearFault>
     requires { ⌜ at ≤ length (now bytes) ⌝ ∗ ⌜ high ≤ 16 ⌝ }
     ensures answer { λ r. ⌜ mapped listOf r ≡ listIn (now (bytes .entry)) place high at ⌝ }
     ensures room { λ r. ⌜ made r (λ w. at + 2 + 2 * length (listOf w) ≤ length (now (bytes .entry))) ⌝ }

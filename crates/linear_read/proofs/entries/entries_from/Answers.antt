@@ -14,6 +14,7 @@ returns-in-None c =
 
 pub loop-i-again : need.loop-i-again
 loop-i-again c =
-    let i = c .loop-i .i in
-    (simp length-set (c .loop-i .inv .0),
-     entries-more (c .args .bytes .now) (c .args .at) i _ _ (c .loop-i .inv .1) (sym (c .in-Some .ensures tt .answer)) ∙ ap Some (sym (take-more-set (c .loop-i .items) i (c .in-Some .entry) (omega arith))))
+    let i = c .loop-i .i in (
+      simp length-set (c .loop-i .inv .0),
+      entries-more (c .args .bytes .now) (c .args .at) i _ _ (c .loop-i .inv .1) (sym (c .in-Some .ensures tt .answer)) ∙ ap Some (sym (take-more-set (c .loop-i .items) i (c .in-Some .entry) (omega arith))),
+    )

@@ -16,7 +16,7 @@ returns-in-Break-word c =
     let stop = kept-cut (ruleOf (c .args .rule)) (c .args .bytes .now) (c .args .count) (c .loop-k .k) (c .loop-k .end) _ _ (c .loop-k-test .taken) (c .in-Break-word .ensures tt .answer) in
     record {
       answer = exits listOf (p .1) (p .2) (c .loop-k .inv .3) stop;
-      room = made-from-err _ _ (c .from-residual .ensures .0)
+      room = made-from-err _ _ (c .from-residual .ensures .0);
     }
 
 pub returns-then-not-keeps : need.returns-then-not-keeps
@@ -28,8 +28,9 @@ pub loop-k-again : need.loop-k-again
 loop-k-again c =
     let k = c .loop-k .k in
     let within : k < length (c .loop-k .items) = omega arith in
-    let room = c .in-Continue-word .ensures tt .room in
-    (simp length-set (c .loop-k .inv .0),
-     omega arith,
-     omega arith,
-     kept-more (ruleOf (c .args .rule)) (c .args .bytes .now) (c .args .count) k (c .loop-k .end) (c .loop-k .items) (c .in-Continue-word .word) (c .loop-k-test .taken) within (c .in-Continue-word .ensures tt .answer) (sym (c .keeps .ensures .answer) ∙ c .if-not-keeps .left) ∙ c .loop-k .inv .3)
+    let room = c .in-Continue-word .ensures tt .room in (
+      simp length-set (c .loop-k .inv .0),
+      omega arith,
+      omega arith,
+      kept-more (ruleOf (c .args .rule)) (c .args .bytes .now) (c .args .count) k (c .loop-k .end) (c .loop-k .items) (c .in-Continue-word .word) (c .loop-k-test .taken) within (c .in-Continue-word .ensures tt .answer) (sym (c .keeps .ensures .answer) ∙ c .if-not-keeps .left) ∙ c .loop-k .inv .3,
+    )

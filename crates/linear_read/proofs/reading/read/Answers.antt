@@ -19,7 +19,7 @@ returns-in-Break-equation c =
       answer = answer;
       leaves = leaves-err (λ (e : Equation). equationOf (e .table)) (linearFile bytes) _ _ _ is refl;
       rules = read-rules bytes (λ i. omega (arith, c .typed .bytes i)) _ answer;
-      trips = made-from-err _ _ (c .from-residual .ensures .0)
+      trips = made-from-err _ _ (c .from-residual .ensures .0);
     }
 
 pub returns : need.returns
@@ -32,5 +32,5 @@ returns c =
       answer = answer;
       leaves = leaves-ok (λ (e : Equation). equationOf (e .table)) (linearFile bytes) e _ (c .in-Continue-equation .equation) is refl;
       rules = read-rules bytes (λ i. omega (arith, c .typed .bytes i)) (Ok tt) answer;
-      trips = sym (read-whole bytes (λ i. omega (arith, c .typed .bytes i)) e is .1)
+      trips = sym (read-whole bytes (λ i. omega (arith, c .typed .bytes i)) e is .1);
     }

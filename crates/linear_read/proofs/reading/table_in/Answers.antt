@@ -14,9 +14,9 @@ returns c =
     let delays = c .in-Continue-delays .delays in
     record {
       answer = table-read (c .args .bytes .now) (headOf head) (actionsOf actions) (delaysOf delays) (c .length-variables .result) (actions .count)
-      (c .in-Continue-header .ensures tt .answer) (c .in-Continue-head .ensures tt .answer) (c .length-variables .ensures .answer)
-      (c .in-Continue-actions .ensures tt .answer) (front-length actionOf (actions .summands) (actions .count) (omega arith))
-      (c .in-Continue-delays .ensures tt .answer) (omega arith)
+          (c .in-Continue-header .ensures tt .answer) (c .in-Continue-head .ensures tt .answer) (c .length-variables .ensures .answer)
+          (c .in-Continue-actions .ensures tt .answer) (front-length actionOf (actions .summands) (actions .count) (omega arith))
+          (c .in-Continue-delays .ensures tt .answer) (omega arith);
     }
 
 pub returns-then-delays-bytes : need.returns-then-delays-bytes
@@ -26,9 +26,9 @@ returns-then-delays-bytes c =
     let delays = c .in-Continue-delays .delays in
     record {
       answer = table-over (c .args .bytes .now) (headOf head) (actionsOf actions) (delaysOf delays) (c .length-variables .result) (actions .count)
-      (c .in-Continue-header .ensures tt .answer) (c .in-Continue-head .ensures tt .answer) (c .length-variables .ensures .answer)
-      (c .in-Continue-actions .ensures tt .answer) (front-length actionOf (actions .summands) (actions .count) (omega arith))
-      (c .in-Continue-delays .ensures tt .answer) (c .if-delays-bytes .taken)
+          (c .in-Continue-header .ensures tt .answer) (c .in-Continue-head .ensures tt .answer) (c .length-variables .ensures .answer)
+          (c .in-Continue-actions .ensures tt .answer) (front-length actionOf (actions .summands) (actions .count) (omega arith))
+          (c .in-Continue-delays .ensures tt .answer) (c .if-delays-bytes .taken);
     }
 
 pub returns-in-Break-delays : need.returns-in-Break-delays
@@ -37,7 +37,7 @@ returns-in-Break-delays c =
     let actions = c .in-Continue-actions .actions in
     let p = err-from-errBy (c .from-residual-in-Break-delays .result) (c .from-residual-in-Break-delays .ensures .1) in
     let stop = delays-stop (c .args .bytes .now) (headOf head) (actionsOf actions) (c .length-variables .result) (actions .count) _
-      (c .in-Continue-header .ensures tt .answer) (c .in-Continue-head .ensures tt .answer) (c .length-variables .ensures .answer)
-      (c .in-Continue-actions .ensures tt .answer) (front-length actionOf (actions .summands) (actions .count) (omega arith))
-      (c .in-Break-delays .ensures tt .answer) in
+    (c .in-Continue-header .ensures tt .answer) (c .in-Continue-head .ensures tt .answer) (c .length-variables .ensures .answer)
+    (c .in-Continue-actions .ensures tt .answer) (front-length actionOf (actions .summands) (actions .count) (omega arith))
+    (c .in-Break-delays .ensures tt .answer) in
     record { answer = exits equationOf (p .1) (p .2) refl stop }

@@ -24,9 +24,10 @@ loop-i-again c =
     let sums = listOf (c .args .sums .now) in
     let i = c .loop-i .i in
     let t = c .loop-i .total in
-    let size = c .size-of .ensures .answer ∙ ap (λ x. getD sizes x 1) (c .word .ensures .answer) in
-    (c .if-total-gt-MOST-VALUES .left,
-     c .loop-i .inv .1 ∙ product-more sizes (c .pre) sums i t (omega arith) ∙ ap (λ s. leb ((t * s) * product sizes (drop (i + 1) sums)) 65536) (sym size))
+    let size = c .size-of .ensures .answer ∙ ap (λ x. getD sizes x 1) (c .word .ensures .answer) in (
+      c .if-total-gt-MOST-VALUES .left,
+      c .loop-i .inv .1 ∙ product-more sizes (c .pre) sums i t (omega arith) ∙ ap (λ s. leb ((t * s) * product sizes (drop (i + 1) sums)) 65536) (sym size),
+    )
 
 pub returns : need.returns
 returns c =
