@@ -1,0 +1,10 @@
+pub mod Fronts
+pub mod Words
+pub mod Steps
+pub mod Rows
+pub mod Sections
+pub mod Left
+pub mod Shows
+pub mod Parsed
+pub mod Wholes
+pub mod Printed
