@@ -43,13 +43,17 @@ impl Cursor {
     }
 
     // Puts a frame on the stack that has `at` frames.
-    fn put(&mut self, at: usize, frame: Frame)
+    fn put(&mut self, at: usize, node: u16, from: u16, valuation: Valuation)
         requires within { ⌜ at < mostFrames ⌝ }
         requires room { ⌜ length (now self .frames) ≡ mostFrames ⌝ }
         ensures deep { λ _. ⌜ now (self .exit) .depth ≡ at + 1 ⌝ }
-        ensures wrote { λ _. ⌜ now (self .exit) .frames ≡ set (now (self .entry) .frames) at frame ⌝ }
+        ensures wrote { λ _. ⌜ now (self .exit) .frames ≡ set (now (self .entry) .frames) at (record { node = node; from = from; valuation = valuation }) ⌝ }
     {
-        self.frames[at] = frame;
+        self.frames[at] = Frame {
+            node,
+            from,
+            valuation,
+        };
         self.depth = at + 1;
     }
 
@@ -69,57 +73,22 @@ impl Cursor {
             }
             Branch::Condition(condition, child) => {
                 if holds(language, condition, &valuation) {
-                    self.put(
-                        at,
-                        Frame {
-                            node: child,
-                            from: 0,
-                            valuation,
-                        },
-                    );
+                    self.put(at, child, 0, valuation);
                 } else {
                     self.depth = at;
                 }
                 None
             }
             Branch::Choice(left, right) => {
-                self.put(
-                    at,
-                    Frame {
-                        node: right,
-                        from: 0,
-                        valuation,
-                    },
-                );
-                self.put(
-                    at + 1,
-                    Frame {
-                        node: left,
-                        from: 0,
-                        valuation,
-                    },
-                );
+                self.put(at, right, 0, valuation);
+                self.put(at + 1, left, 0, valuation);
                 None
             }
             Branch::Sum(variable, child) => {
                 if frame.from < nodes.size(variable) {
-                    self.put(
-                        at,
-                        Frame {
-                            node: frame.node,
-                            from: frame.from + 1,
-                            valuation,
-                        },
-                    );
+                    self.put(at, frame.node, frame.from + 1, valuation);
                     let valuation = valuation.with(variable, frame.from);
-                    self.put(
-                        at + 1,
-                        Frame {
-                            node: child,
-                            from: 0,
-                            valuation,
-                        },
-                    );
+                    self.put(at + 1, child, 0, valuation);
                 } else {
                     self.depth = at;
                 }
