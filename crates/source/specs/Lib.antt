@@ -1,3 +1,4 @@
+pub mod Counters
 pub mod Free
 pub mod Models
 pub mod Nodes
