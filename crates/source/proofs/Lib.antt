@@ -1,0 +1,14 @@
+pub mod Ascends
+pub mod Below
+pub mod Enumerate
+pub mod Flats
+pub mod FreeIs
+pub mod Grown
+pub mod InWords
+pub mod Mapped
+pub mod Marks
+pub mod Numbers
+pub mod PlaceOrder
+pub mod Rested
+pub mod Totals
+pub mod Words

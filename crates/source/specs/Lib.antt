@@ -1,0 +1,10 @@
+pub mod Counters
+pub mod Free
+pub mod Models
+pub mod Nodes
+pub mod Order
+pub mod Places
+pub mod Published
+pub mod Rules
+pub mod Sound
+pub mod Terms
