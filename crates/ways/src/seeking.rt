@@ -13,7 +13,7 @@ use crate::nodes::Nodes;
 use language::Language;
 use valuation::Valuation;
 
-// The leaf of this number, which falls by how many there are where they are too few: so a search
+// The leaf of this number, which falls by how many there are where they are too few: so a look
 // goes on among the leaves of another node.
 pub fn seek<N: Nodes, L: Language>(
     nodes: &N,
