@@ -26,7 +26,7 @@ use Rattle.model.specs.Accept.{judged}
 use Rattle.model.specs.Flat.{flat, processOf, nodeOf, orDelay}
 use Rattle.model.specs.Nodes.{nodeIn, valueIn}
 use Rattle.model.proofs.Numbered.{numbered-nth}
-use Rattle.source.specs.Counters.{bodyIs, leadsTo, calling, lower, counter, counterAt, Counts}
+use Rattle.source.specs.Counters.{bodyIs, leadsTo, calling, lower, counterOf, counterAt, Counts}
 use Rattle.source.specs.declared.numbering.Counter.{Counter}
 use Rattle.source.proofs.Flats.{sound}
 
@@ -77,9 +77,9 @@ module _ (bs : List ℕ) (lawful : isOk (judged bs) ≡ true) where
 
   pub counts : (r : List (Option Counter)) → ((n : ℕ) → n < nodeCount bs l → getD r n None ≡ counterAt (resting bs l) n) → Counts bs l r
   counts r h = record {
-    some = λ n low rests. h n low ∙ ap (λ b. cond b (Some (counter (suc (lower (resting bs l) n)))) None) (resting-made bs l n low rests);
+    some = λ n low rests. h n low ∙ ap (λ b. cond b (Some (counterOf (suc (lower (resting bs l) n)))) None) (resting-made bs l n low rests);
     none = λ n low none. ⊎-elim
         (λ (a : resting bs l n ≡ true). absurd (none (resting-is bs l n a)))
-        (λ (a : resting bs l n ≡ false). h n low ∙ ap (λ b. cond b (Some (counter (suc (lower (resting bs l) n)))) None) a)
+        (λ (a : resting bs l n ≡ false). h n low ∙ ap (λ b. cond b (Some (counterOf (suc (lower (resting bs l) n)))) None) a)
         (cases-bool (resting bs l n));
   }

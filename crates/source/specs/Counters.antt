@@ -44,13 +44,13 @@ abbrev pub lower : (ℕ → Bool) → ℕ → ℕ
 lower p zero = 0
 lower p (suc n) = lower p n + cond (p n) 1 0
 
-abbrev pub counter : ℕ → Counter
-counter n = record { 0 = n }
+abbrev pub counterOf : ℕ → Counter
+counterOf n = record { 0 = n }
 
 abbrev pub counterAt : (ℕ → Bool) → ℕ → Option Counter
-counterAt p n = cond (p n) (Some (counter (suc (lower p n)))) None
+counterAt p n = cond (p n) (Some (counterOf (suc (lower p n)))) None
 
 module _ (bs : List ℕ) (l : Layout) where
   pub record Counts (r : List (Option Counter)) : Type 0 where
-    pub some : (n : ℕ) → n < nodeCount bs l → Resting bs l n → getD r n None ≡ Some (counter (suc (lower (resting bs l) n)))
+    pub some : (n : ℕ) → n < nodeCount bs l → Resting bs l n → getD r n None ≡ Some (counterOf (suc (lower (resting bs l) n)))
     pub none : (n : ℕ) → n < nodeCount bs l → (Resting bs l n → ⊥) → getD r n None ≡ None

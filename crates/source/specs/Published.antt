@@ -15,7 +15,7 @@ use Rattle.source.specs.Free.{free}
 use Rattle.source.specs.Models.{Process, Model, Term, node, process}
 use Rattle.source.specs.Order.{Ascending}
 use Rattle.source.specs.Rules.{Rule, Implies, NChoiceL, NChoiceR, NSum, PSum, MStep, sameRules, Derived}
-use Rattle.source.specs.Terms.{transitions}
+use Rattle.source.specs.Terms.{transitions, startTerm}
 
 -- A value given to a variable: itself where the variable holds it, else the largest that it holds.
 abbrev pub CutTo : ℕ → ℕ → ℕ → Type 0
@@ -71,3 +71,7 @@ pub record Exactly (L : Meaning) (m : Model) (t : Tree) (ρ : List ℕ) : Type 0
 
 abbrev pub ListsAll : Type 0
 ListsAll = (L : Meaning) (m : Model) (t : Tree) (ρ : List ℕ) → Exactly L m t ρ
+
+-- The first term is the start process's body, parameter i with start value i.
+abbrev pub StartsInWords : Type 0
+StartsInWords = (L : Meaning) (m : Model) → IsTerm L m (process m (m .begins) .body) (AtParams (process m (m .begins)) (λ i v. v ≡ getD (m .values) i 0)) (startTerm L m)

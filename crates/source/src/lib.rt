@@ -3,6 +3,7 @@ mod free;
 mod numbering;
 mod own;
 mod places;
+mod rules;
 
 pub use free::free_nodes;
 pub use numbering::Counter;
