@@ -14,7 +14,7 @@ use Rattle.std.proofs.shelf.Tests.{cases-eq}
 use Rattle.language.specs.Meanings.{Meaning}
 use Rattle.model_rules.specs.declared.shape.Shape.{Shape}
 use Rattle.model_rules.specs.declared.shape.Shape.the-variants.{Call, Condition, Choice, Sum, Action, Delay}
-use Rattle.model.specs.File.{bytesOf}
+use Rattle.words.specs.Words.{bytesOf}
 use Rattle.model.specs.Flat.{Flat}
 use Rattle.model.specs.Nodes.{nodeIn, valueIn, argumentsFrom, callArity, actionArity}
 use Rattle.model.specs.Trees.{Tree, call, when, choice, sum, action, delay, planted, treeOf}

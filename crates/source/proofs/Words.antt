@@ -11,7 +11,7 @@ use Rattle.std.proofs.shelf.Lists.{ext-getD}
 use Rattle.std.proofs.shelf.Counted.{length-map-counting, getD-map-counting}
 use Rattle.words.specs.Words.{wordAt}
 use Rattle.language.specs.Meanings.{Meaning}
-use Rattle.model.specs.File.{bytesOf}
+use Rattle.words.specs.Words.{bytesOf}
 use Rattle.source.specs.Free.{namedIn}
 use Rattle.source.specs.Nodes.{wordsIn}
 
