@@ -1,0 +1,2 @@
+pub mod Failovers
+pub mod Renamings
