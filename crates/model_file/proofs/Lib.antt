@@ -1,0 +1,4 @@
+pub mod Kept
+pub mod Located
+pub mod Tested
+pub mod Walk

@@ -1,0 +1,11 @@
+pub mod Bound
+pub mod Counts
+pub mod Decoded
+pub mod Down
+pub mod Firsts
+pub mod Held
+pub mod Moves
+pub mod Named
+pub mod Placed
+pub mod Reach
+pub mod Ruled
