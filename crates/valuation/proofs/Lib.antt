@@ -1,0 +1,3 @@
+mod Fronts
+mod Holding
+pub mod Totals
