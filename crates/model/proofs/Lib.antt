@@ -1,1 +1,5 @@
+pub mod Bytes
+pub mod Handed
+pub mod Judged
 pub mod Numbered
+pub mod Written

@@ -2,7 +2,11 @@
 ghost use mathlib.Core.Path.{_≡_};
 ghost use Rattle.std.specs.Results.{Cases};
 ghost use Rattle.model.specs.Accept.{judged};
+ghost use Rattle.model.specs.File.{fileOf};
 ghost use Rattle.model.specs.Flat.{flat, smallestFlat};
+ghost use Rattle.model.specs.WellFormed.{WellFormed};
+ghost use Rattle.std.specs.declared.result.Result.the-variants.{Ok};
+ghost use Rattle.words.specs.Headers.{Iff};
 use super::Draft;
 use super::Model;
 use model_file::ModelFault;
@@ -17,6 +21,8 @@ pub fn open<'a>(bytes: &'a [u8]) -> Draft<'a>
 
 fn judge(bytes: &[u8]) -> Result<(), ModelFault>
     ensures answer { λ r. ⌜ r ≡ judged (now (bytes .entry)) ⌝ }
+    ensures rules { λ r. ⌜ Iff (r ≡ Ok tt) (WellFormed (now (bytes .entry))) ⌝ }
+    ensures written { λ r. ⌜ (r ≡ Ok tt → fileOf (flat (now (bytes .entry))) ≡ now (bytes .entry)) ⌝ }
 {
     check_sections(bytes)?;
     check_rules(bytes)
@@ -26,6 +32,8 @@ fn judge(bytes: &[u8]) -> Result<(), ModelFault>
 pub fn accept<'a>(draft: Draft<'a>, into: &mut Model<'a>) -> Result<(), ModelFault>
     ensures answer { λ r. ⌜ r ≡ judged (now (draft .entry .bytes)) ⌝ }
     ensures leaves { λ r. ⌜ Cases r (λ _. now (now (into .exit) .bytes) ≡ now (draft .entry .bytes)) (λ _. now (into .exit) ≡ now (into .entry)) ⌝ }
+    ensures rules { λ r. ⌜ Iff (r ≡ Ok tt) (WellFormed (now (draft .entry .bytes))) ⌝ }
+    ensures written { λ r. ⌜ (r ≡ Ok tt → fileOf (flat (now (draft .entry .bytes))) ≡ now (draft .entry .bytes)) ⌝ }
 {
     let Draft { bytes } = draft;
     judge(bytes)?;
