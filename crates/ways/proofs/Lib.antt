@@ -1,0 +1,5 @@
+pub mod Bounds
+pub mod Chains
+mod Stacks
+mod Turns
+mod Yielded

@@ -1,0 +1,4 @@
+pub mod Chains
+pub mod Leaves
+pub mod Stacks
+pub mod Trees
