@@ -16,6 +16,8 @@ use Rattle.std.proofs.shelf.Tests.{eq-eqb, ne-eqb, eqb-true, eqb-false}
 use Rattle.model.specs.Trees.{Tree, call, when, choice, sum, action, delay}
 use Rattle.source.specs.Models.{node, Process, Model, Next, calls, rests, next}
 use Rattle.valuation.specs.Doings.{Does, acts, waits}
+use Rattle.linear.specs.Equations.{Guarded}
+use Rattle.behaviour.specs.Passing.{placeItself, andSum, andCondition}
 use Rattle.behaviour.specs.Ways.{Way, ways, addSum, addCondition, numbered, allWays}
 use Rattle.source.specs.Places.{below, rest, unsorted, places, counter, inOrder}
 use Rattle.source.specs.Sound.{Here, Numbered, Sound}
@@ -24,21 +26,6 @@ use Rattle.behaviour.proofs.Placed.{is, nodesOf, isLeaf, leafs, PlacedOnce, al
 use Rattle.behaviour.proofs.Kept.{all-joined, all-inOrder, all-any}
 use Rattle.source.proofs.Enumerate.{all-counting}
 use Rattle.std.proofs.shelf.Tests.{cases-lt}
-
--- What stands above a node: the program counter, and the sum variables and conditions from the top.
-pub record Above : Type 0 where
-  pub at : ℕ
-  pub sums : List ℕ
-  pub conditions : List ℕ
-
-abbrev pub place-itself : ℕ → Above
-place-itself c = record { at = c; sums = []; conditions = [] }
-
-abbrev pub andSum : ℕ → Above → Above
-andSum x u = record { at = u .at; sums = u .sums ++ (x ∷ []); conditions = u .conditions }
-
-abbrev pub andCondition : ℕ → Above → Above
-andCondition e u = record { at = u .at; sums = u .sums; conditions = u .conditions ++ (e ∷ []) }
 
 abbrev pub doing : Tree → Does
 doing (call n p es) = waits 0
@@ -56,10 +43,10 @@ going (sum n x t) = calls 0 []
 going (action n a es x w t) = next t
 going (delay n r t) = next t
 
-module _ (m : Model) (tree : ℕ → Tree) (above : ℕ → Above) where
-  abbrev Arrived : Next → Type 0
+module _ (m : Model) (tree : ℕ → Tree) (above : ℕ → Guarded) where
+  abbrev pub Arrived : Next → Type 0
   Arrived (calls p es) = Unit {0}
-  Arrived (rests t) = above (node t) ≡ place-itself (counter m (node t))
+  Arrived (rests t) = above (node t) ≡ placeItself (counter m (node t))
 
   -- `above` passes from each node to its children
   abbrev pub Passes : Tree → Type 0
@@ -71,32 +58,32 @@ module _ (m : Model) (tree : ℕ → Tree) (above : ℕ → Above) where
   Passes (delay n r t) = Arrived (next t) × Passes t
 
   -- a way, given what stands above the tree it starts in
-  abbrev Fits-above : Above → Way → Type 0
-  Fits-above u y = (above (y .leaf) ≡ record { at = u .at; sums = u .sums ++ y .sums; conditions = u .conditions ++ y .conditions }) × (y .doing ≡ doing (tree (y .leaf))) × (y .then ≡ going (tree (y .leaf)))
+  abbrev Fits-above : Guarded → Way → Type 0
+  Fits-above u y = (above (y .leaf) ≡ record { counter = u .counter; sums = u .sums ++ y .sums; conditions = u .conditions ++ y .conditions }) × (y .doing ≡ doing (tree (y .leaf))) × (y .then ≡ going (tree (y .leaf)))
 
-  ways-above : (t : Tree) (u : Above) → Numbered m tree t → Passes t → above (node t) ≡ u → All (Fits-above u) (ways t)
+  ways-above : (t : Tree) (u : Guarded) → Numbered m tree t → Passes t → above (node t) ≡ u → All (Fits-above u) (ways t)
   ways-above (call n p es) u h q e = tt
   ways-above (when n c t) u h q e =
       all-map (Fits-above u) (addCondition c) (ways t)
-        (all-weaker _ _ (λ y f. (f .0 ∙ ap (λ z. record { at = u .at; sums = u .sums ++ y .sums; conditions = z }) (append-snoc (u .conditions) c (y .conditions)), f .1, f .2)) (ways t)
+        (all-weaker _ _ (λ y f. (f .0 ∙ ap (λ z. record { counter = u .counter; sums = u .sums ++ y .sums; conditions = z }) (append-snoc (u .conditions) c (y .conditions)), f .1, f .2)) (ways t)
           (ways-above t (andCondition c u) (h .1) (q .1) (q .0 ∙ ap (andCondition c) e)))
   ways-above (choice n l r) u h q e =
       all-append _ (ways l) (ways r) (ways-above l u (h .1) (q .2) (q .0 ∙ e)) (ways-above r u (h .2) (q .3) (q .1 ∙ e))
   ways-above (sum n x t) u h q e =
       all-map (Fits-above u) (addSum x) (ways t)
-        (all-weaker _ _ (λ y f. (f .0 ∙ ap (λ z. record { at = u .at; sums = z; conditions = u .conditions ++ y .conditions }) (append-snoc (u .sums) x (y .sums)), f .1, f .2)) (ways t)
+        (all-weaker _ _ (λ y f. (f .0 ∙ ap (λ z. record { counter = u .counter; sums = z; conditions = u .conditions ++ y .conditions }) (append-snoc (u .sums) x (y .sums)), f .1, f .2)) (ways t)
           (ways-above t (andSum x u) (h .1) (q .1) (q .0 ∙ ap (andSum x) e)))
   ways-above (action n a es x w t) u h q e =
-      ((e ∙ ap₂ (λ a b. record { at = u .at; sums = a; conditions = b }) (sym (append-nil (u .sums))) (sym (append-nil (u .conditions))), sym (ap doing (h .0 .1)), sym (ap going (h .0 .1))), tt)
+      ((e ∙ ap₂ (λ a b. record { counter = u .counter; sums = a; conditions = b }) (sym (append-nil (u .sums))) (sym (append-nil (u .conditions))), sym (ap doing (h .0 .1)), sym (ap going (h .0 .1))), tt)
   ways-above (delay n r t) u h q e =
-      ((e ∙ ap₂ (λ a b. record { at = u .at; sums = a; conditions = b }) (sym (append-nil (u .sums))) (sym (append-nil (u .conditions))), sym (ap doing (h .0 .1)), sym (ap going (h .0 .1))), tt)
+      ((e ∙ ap₂ (λ a b. record { counter = u .counter; sums = a; conditions = b }) (sym (append-nil (u .sums))) (sym (append-nil (u .conditions))), sym (ap doing (h .0 .1)), sym (ap going (h .0 .1))), tt)
 
   -- the way to node i, and its place's counter
   abbrev pub wayTo : ℕ → ℕ × Way
-  wayTo i = (above i .at, record { leaf = i; sums = above i .sums; conditions = above i .conditions; doing = doing (tree i); then = going (tree i) })
+  wayTo i = (above i .counter, record { leaf = i; sums = above i .sums; conditions = above i .conditions; doing = doing (tree i); then = going (tree i) })
 
-  tagged : (c : ℕ) (y : Way) → Fits-above (place-itself c) y → (c, y) ≡ wayTo (y .leaf)
-  tagged c y f = let q = sym (f .0) in λ i. (q i .at, record { leaf = y .leaf; sums = q i .sums; conditions = q i .conditions; doing = f .1 i; then = f .2 i })
+  tagged : (c : ℕ) (y : Way) → Fits-above (placeItself c) y → (c, y) ≡ wayTo (y .leaf)
+  tagged c y f = let q = sym (f .0) in λ i. (q i .counter, record { leaf = y .leaf; sums = q i .sums; conditions = q i .conditions; doing = f .1 i; then = f .2 i })
 
 -- what is known of each element with key i, by a list of them
 kept-is : {X : Type 0} (key : X → ℕ) (F : ℕ → X) (i : ℕ) (xs : List X) → All (λ x. x ≡ F (key x)) xs → kept-by (λ x. eqb (key x) i) xs ≡ replicate (total (λ x. is i (key x)) xs) (F i)
@@ -182,8 +169,8 @@ all-two : {X : Type 0} (P Q : X → Type 0) (xs : List X) → All P xs → All Q
 all-two P Q [] a b = tt
 all-two P Q (x ∷ xs) a b = ((a .0, b .0), all-two P Q xs (a .1) (b .1))
 
-module _ (m : Model) (s : Sound m) (w : PlacedOnce m (s .tree)) (above : ℕ → Above)
-    (bodies : All (λ q. (above (node (q .body)) ≡ place-itself (counter m (node (q .body)))) × Passes m (s .tree) above (q .body)) (m .processes)) where
+module _ (m : Model) (s : Sound m) (w : PlacedOnce m (s .tree)) (above : ℕ → Guarded)
+    (bodies : All (λ q. (above (node (q .body)) ≡ placeItself (counter m (node (q .body)))) × Passes m (s .tree) above (q .body)) (m .processes)) where
   root : (t : Tree) → Numbered m (s .tree) t → node t < m .nodes
   root (call k p es) h = h .0
   root (when k e t) h = h .0 .0
@@ -218,7 +205,7 @@ module _ (m : Model) (s : Sound m) (w : PlacedOnce m (s .tree)) (above : ℕ →
 
   -- what is known of a place
   abbrev Known : Tree → Type 0
-  Known t = Numbered m (s .tree) t × Passes m (s .tree) above t × (above (node t) ≡ place-itself (counter m (node t)))
+  Known t = Numbered m (s .tree) t × Passes m (s .tree) above t × (above (node t) ≡ placeItself (counter m (node t)))
 
   known-rest : (t : Tree) → Numbered m (s .tree) t → Passes m (s .tree) above t → Arrived m (s .tree) above (next t) → All Known (rest (next t))
   known-rest (call k p es) h q e = tt
@@ -253,7 +240,7 @@ module _ (m : Model) (s : Sound m) (w : PlacedOnce m (s .tree)) (above : ℕ →
       are : All (λ z. z ≡ wayTo m (s .tree) above (z .1 .leaf)) list
       are =
           all-joined _ (λ (z : ℕ × Tree). map {B = ℕ × Way} (λ y. (z .0, y)) (ways (z .1))) (numbered 1 (places m))
-            (all-weaker _ _ (λ z k. all-map _ (λ y. (z .0, y)) (ways (z .1)) (all-weaker _ _ (λ y f. tagged m (s .tree) above (z .0) y f) (ways (z .1)) (ways-above m (s .tree) above (z .1) (place-itself (z .0)) (k .0 .0) (k .0 .1) (k .0 .2 ∙ ap place-itself (k .1))))) (numbered 1 (places m))
+            (all-weaker _ _ (λ z k. all-map _ (λ y. (z .0, y)) (ways (z .1)) (all-weaker _ _ (λ y f. tagged m (s .tree) above (z .0) y f) (ways (z .1)) (ways-above m (s .tree) above (z .1) (placeItself (z .0)) (k .0 .0) (k .0 .1) (k .0 .2 ∙ ap placeItself (k .1))))) (numbered 1 (places m))
               (all-two _ _ (numbered 1 (places m)) (all-numbered Known 1 (places m) known) (positions (places m) [] (places m) refl places-once 1 refl)))
       counted : (i : ℕ) → total (λ z. is i (z .1 .leaf)) list ≡ total (leafs i) (unsorted m)
       counted i =

@@ -10,3 +10,7 @@ pub mod Words
 pub mod Keeping
 pub mod Placed
 pub mod ByNode
+pub mod Grown
+pub mod Accepted
+pub mod Nodewise
+pub mod Summands

@@ -7,3 +7,5 @@ pub mod Lists
 pub mod Behaves
 pub mod Claims
 pub mod Sides
+pub mod Accepted
+pub mod Passing
