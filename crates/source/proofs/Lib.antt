@@ -1,0 +1,11 @@
+pub mod Ascends
+pub mod Below
+pub mod Counters
+pub mod Enumerate
+pub mod Flats
+pub mod FreeIs
+pub mod Grown
+pub mod InWords
+pub mod Mapped
+pub mod Totals
+pub mod Words

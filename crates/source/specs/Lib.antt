@@ -1,0 +1,9 @@
+pub mod Free
+pub mod Models
+pub mod Nodes
+pub mod Order
+pub mod Places
+pub mod Published
+pub mod Rules
+pub mod Sound
+pub mod Terms

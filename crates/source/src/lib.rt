@@ -1,0 +1,5 @@
+// Terms of a model and their derivations, and where variables are free.
+mod free;
+mod own;
+
+pub use free::free_nodes;
