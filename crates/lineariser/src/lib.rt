@@ -1,0 +1,5 @@
+// From a model to its equation.
+mod above;
+mod few;
+mod inner;
+mod link;
