@@ -45,15 +45,17 @@ use Rattle.behaviour.proofs.Placed.{is, kids, PlacedOnce}
 -- what is said of each place of a list, said from the front
 kids-by : (g : Flat) (i : ℕ) (ks : List Shape) (d : Shape) → ((j : ℕ) → j < length ks → Kids g (i + j) (getD ks j d)) → KidsFrom g i ks
 kids-by g i [] d h = tt
-kids-by g i (k ∷ ks) d h =
-    (let e : i + 0 ≡ i = omega arith in subst (λ n. Kids g n k) e (h 0 (omega arith)),
-     kids-by g (suc i) ks d (λ j l. let e : i + suc j ≡ suc i + j = omega arith in subst (λ n. Kids g n (getD ks j d)) e (h (suc j) (omega arith))))
+kids-by g i (k ∷ ks) d h = (
+  let e : i + 0 ≡ i = omega arith in subst (λ n. Kids g n k) e (h 0 (omega arith)),
+  kids-by g (suc i) ks d (λ j l. let e : i + suc j ≡ suc i + j = omega arith in subst (λ n. Kids g n (getD ks j d)) e (h (suc j) (omega arith))),
+)
 
 binds-by : (owner : ℕ → ℕ) (i : ℕ) (ks : List Shape) (d : Shape) → ((j : ℕ) → j < length ks → Binds owner (i + j) (getD ks j d)) → BindsFrom owner i ks
 binds-by owner i [] d h = tt
-binds-by owner i (k ∷ ks) d h =
-    (let e : i + 0 ≡ i = omega arith in subst (λ n. Binds owner n k) e (h 0 (omega arith)),
-     binds-by owner (suc i) ks d (λ j l. let e : i + suc j ≡ suc i + j = omega arith in subst (λ n. Binds owner n (getD ks j d)) e (h (suc j) (omega arith))))
+binds-by owner i (k ∷ ks) d h = (
+  let e : i + 0 ≡ i = omega arith in subst (λ n. Binds owner n k) e (h 0 (omega arith)),
+  binds-by owner (suc i) ks d (λ j l. let e : i + suc j ≡ suc i + j = omega arith in subst (λ n. Binds owner n (getD ks j d)) e (h (suc j) (omega arith))),
+)
 
 -- who binds, as a number: 0 for a parameter, one more than the node for a node
 code : Binder → ℕ
@@ -67,12 +69,16 @@ total-tally f (suc k) i = ap (λ n. f i + n) (total-tally f k (i + 1))
 module _ (bs : List ℕ) (w : WellFormed bs) where
   abbrev l : Layout
   l = layoutOf bs
+
   abbrev g : Flat
   g = flat bs
+
   abbrev K : ℕ
   K = nodeCount bs (layoutOf bs)
+
   abbrev P : ℕ
   P = processCount bs (layoutOf bs)
+
   abbrev V : ℕ
   V = variableCount bs
 
@@ -111,9 +117,10 @@ module _ (bs : List ℕ) (w : WellFormed bs) where
   kid-of n c h = (h .0, subst (λ k. c < k) count-nodes (h .1))
 
   kids-of : (n : ℕ) (s : Shape) → rules.Names bs l n s → Kids g n s
-  kids-of n (shape.Call p f) h =
-      (subst (λ k. p < k) count-processes (h .0),
-       arguments-there f (callArity g p) (subst (Run (argumentCount bs l) f) (arity-is p (h .0)) (h .1)))
+  kids-of n (shape.Call p f) h = (
+    subst (λ k. p < k) count-processes (h .0),
+    arguments-there f (callArity g p) (subst (Run (argumentCount bs l) f) (arity-is p (h .0)) (h .1)),
+  )
   kids-of n (shape.Condition e c) h = kid-of n c h
   kids-of n (shape.Choice x y) h = (kid-of n x (h .0), kid-of n y (h .1))
   kids-of n (shape.Sum v c) h = kid-of n c (h .1)
@@ -156,7 +163,7 @@ module _ (bs : List ℕ) (w : WellFormed bs) where
   unfolding shape-of
   binds-at n low d =
       subst (Binds owner-of n) (sym (flat-at n low d))
-        (binds-of n (shape-of n low) (w .sound .kinds n low .1) (w .sound .names n (shape-of n low) (w .sound .kinds n low .1)))
+      (binds-of n (shape-of n low) (w .sound .kinds n low .1) (w .sound .names n (shape-of n low) (w .sound .kinds n low .1)))
 
   all-binds : BindsFrom owner-of 0 (g .nodes)
   all-binds = binds-by owner-of 0 (g .nodes) (shape.Delay 0 0) (λ j i. let e : j ≡ 0 + j = omega arith in subst (λ n. Binds owner-of n (getD (g .nodes) j (shape.Delay 0 0))) e (binds-at j (subst (λ k. j < k) (sym count-nodes) i) (shape.Delay 0 0)))
@@ -200,17 +207,18 @@ module _ (bs : List ℕ) (w : WellFormed bs) where
 
   pub well-made : WellMade g
   well-made = record {
-      owner = owner-of;
-      binds = all-binds;
-      ownParams = all-processes _ own-param;
-      kids = all-kids;
-      bodies = all-processes _ (λ i low. subst (λ n. bodyOf bs l i < n) count-nodes (w .sound .bodies i low));
-      starts = subst (λ n. startOf bs l < n) count-processes (w .limits .start);
-      sizes = λ x low. (let i : x < V = subst (λ n. x < n) (sym count-sizes) low in
+    owner = owner-of;
+    binds = all-binds;
+    ownParams = all-processes _ own-param;
+    kids = all-kids;
+    bodies = all-processes _ (λ i low. subst (λ n. bodyOf bs l i < n) count-nodes (w .sound .bodies i low));
+    starts = subst (λ n. startOf bs l < n) count-processes (w .limits .start);
+    sizes = λ x low. (let i : x < V = subst (λ n. x < n) (sym count-sizes) low in
         let e = numbered-at (sizeOf bs) V x 0 i in let h = w .limits .sizes x i .0 in subst (λ n. 0 < n) e h);
-      values = λ x low h.
+    values = λ x low h.
         subst (λ (q : Process). getD (g .values) (x - q .first) 0 < getD (g .sizes) x 0) (sym start-process)
-          (start-small x (subst (λ n. x < n) (sym count-sizes) low) (subst (λ q. param q x ≡ true) start-process h)) }
+        (start-small x (subst (λ n. x < n) (sym count-sizes) low) (subst (λ q. param q x ≡ true) start-process h));
+  }
 
   unfoldable pub accepted-sound : Sound (modelOf g)
   accepted-sound = sound g well-made
@@ -285,9 +293,10 @@ module _ (bs : List ℕ) (w : WellFormed bs) where
   pub accepted-once : PlacedOnce (modelOf g) (treeOf g)
   unfolding shape-of
   accepted-once = record {
-      higher = λ k n h. ⊎-elim (λ (i : k < K). kids-are k n i ∙ ap (children n) (shape-at k i) ∙ no-child k n (shape-of k i) h (kids-of k (shape-of k i) (w .sound .names k (shape-of k i) (w .sound .kinds k i .1))))
+    higher = λ k n h. ⊎-elim (λ (i : k < K). kids-are k n i ∙ ap (children n) (shape-at k i) ∙ no-child k n (shape-of k i) h (kids-of k (shape-of k i) (w .sound .names k (shape-of k i) (w .sound .kinds k i .1))))
         (λ i. ap (λ t. kids t n) (List·getD-eq-default (grown g 0 (g .nodes)) (call 0 0 []) (let e = length-grown 0 (g .nodes) in omega (arith, count-nodes)))) (cases-lt k K);
-      placed = λ n h. ap₂ _+_ (bodies-sum n) (kids-sum n) ∙ placed-sum n (subst (λ z. n < z) (sym count-nodes) h) }
+    placed = λ n h. ap₂ _+_ (bodies-sum n) (kids-sum n) ∙ placed-sum n (subst (λ z. n < z) (sym count-nodes) h);
+  }
     where
       length-grown : (i : ℕ) (ks : List Shape) → length (grown g i ks) ≡ length ks
       length-grown i [] = refl
@@ -310,7 +319,8 @@ module _ (bs : List ℕ) (w : WellFormed bs) where
         there = ap (valueIn g) (sym (numbered-nth (nodeOf bs l) K n (i .0)) ∙ ap Some e);
         tree = tree-is g all-kids d n low ∙ ap (λ k. planted g n k (treeOf g)) (sym (numbered-at (nodeOf bs l) K n d (i .0)) ∙ e);
         kids = kids-of n s (w .sound .names n s i);
-        names = w .sound .names n s i }
+        names = w .sound .names n s i;
+      }
 
   pub number-of : (n : ℕ) → n < K → node (treeOf g n) ≡ n
   number-of n low = its-number n (subst (λ k. n < k) count-nodes low)

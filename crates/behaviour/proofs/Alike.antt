@@ -112,7 +112,8 @@ into-else t u r n = ⊎-elim (λ e. absurd (n (sym (words-true t u e)))) (λ e. 
 
 pub counted-means : Counted
 counted-means = record {
-    same = move-true;
-    always = move-refl;
-    into = λ t d e. into-refl t (d .target) (d .rate) e;
-    elsewhere = λ t d n. into-else t (d .target) (d .rate) n }
+  same = move-true;
+  always = move-refl;
+  into = λ t d e. into-refl t (d .target) (d .rate) e;
+  elsewhere = λ t d n. into-else t (d .target) (d .rate) n;
+}

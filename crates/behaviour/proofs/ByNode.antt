@@ -65,14 +65,14 @@ module _ (m : Model) (tree : ℕ → Tree) (above : ℕ → Guarded) where
   ways-above (call n p es) u h q e = tt
   ways-above (when n c t) u h q e =
       all-map (Fits-above u) (addCondition c) (ways t)
-        (all-weaker _ _ (λ y f. (f .0 ∙ ap (λ z. record { counter = u .counter; sums = u .sums ++ y .sums; conditions = z }) (append-snoc (u .conditions) c (y .conditions)), f .1, f .2)) (ways t)
-          (ways-above t (andCondition c u) (h .1) (q .1) (q .0 ∙ ap (andCondition c) e)))
+      (all-weaker _ _ (λ y f. (f .0 ∙ ap (λ z. record { counter = u .counter; sums = u .sums ++ y .sums; conditions = z }) (append-snoc (u .conditions) c (y .conditions)), f .1, f .2)) (ways t)
+      (ways-above t (andCondition c u) (h .1) (q .1) (q .0 ∙ ap (andCondition c) e)))
   ways-above (choice n l r) u h q e =
       all-append _ (ways l) (ways r) (ways-above l u (h .1) (q .2) (q .0 ∙ e)) (ways-above r u (h .2) (q .3) (q .1 ∙ e))
   ways-above (sum n x t) u h q e =
       all-map (Fits-above u) (addSum x) (ways t)
-        (all-weaker _ _ (λ y f. (f .0 ∙ ap (λ z. record { counter = u .counter; sums = z; conditions = u .conditions ++ y .conditions }) (append-snoc (u .sums) x (y .sums)), f .1, f .2)) (ways t)
-          (ways-above t (andSum x u) (h .1) (q .1) (q .0 ∙ ap (andSum x) e)))
+      (all-weaker _ _ (λ y f. (f .0 ∙ ap (λ z. record { counter = u .counter; sums = z; conditions = u .conditions ++ y .conditions }) (append-snoc (u .sums) x (y .sums)), f .1, f .2)) (ways t)
+      (ways-above t (andSum x u) (h .1) (q .1) (q .0 ∙ ap (andSum x) e)))
   ways-above (action n a es x w t) u h q e =
       ((e ∙ ap₂ (λ a b. record { counter = u .counter; sums = a; conditions = b }) (sym (append-nil (u .sums))) (sym (append-nil (u .conditions))), sym (ap doing (h .0 .1)), sym (ap going (h .0 .1))), tt)
   ways-above (delay n r t) u h q e =
@@ -92,7 +92,7 @@ kept-is key F i [] a = refl
 kept-is {X} key F i (x ∷ xs) a = go (eqb (key x) i) refl (kept-is key F i xs (a .1))
   where
     go : (b : Bool) → eqb (key x) i ≡ b → kept-by (λ x. eqb (key x) i) xs ≡ replicate (total (λ x. cond (eqb (key x) i) 1 0) xs) (F i)
-      → cond b (x ∷ kept-by (λ x. eqb (key x) i) xs) (kept-by (λ x. eqb (key x) i) xs) ≡ replicate (cond b 1 0 + total (λ x. cond (eqb (key x) i) 1 0) xs) (F i)
+        → cond b (x ∷ kept-by (λ x. eqb (key x) i) xs) (kept-by (λ x. eqb (key x) i) xs) ≡ replicate (cond b 1 0 + total (λ x. cond (eqb (key x) i) 1 0) xs) (F i)
     go true e ih =
         let q : 1 + total (λ x. cond (eqb (key x) i) 1 0) xs ≡ suc (total (λ x. cond (eqb (key x) i) 1 0) xs) = omega arith in
         rw q (ap₂ {C = List X} _∷_ (a .0 ∙ ap F (eqb-true _ _ e)) ih)
@@ -106,12 +106,12 @@ module _ (n : ℕ) where
   passing (x ∷ xs) ys h = go (eqb (node x) n) refl (λ k. passing xs ys k)
     where
       go : (b : Bool) → eqb (node x) n ≡ b → (total (λ t. cond (eqb (node t) n) 1 0) xs ≡ 0 → leading (λ t. not (eqb (node t) n)) (xs ++ ys) ≡ length xs + leading (λ t. not (eqb (node t) n)) ys)
-        → cond (not b) (1 + leading (λ t. not (eqb (node t) n)) (xs ++ ys)) 0 ≡ suc (length xs) + leading (λ t. not (eqb (node t) n)) ys
+          → cond (not b) (1 + leading (λ t. not (eqb (node t) n)) (xs ++ ys)) 0 ≡ suc (length xs) + leading (λ t. not (eqb (node t) n)) ys
       go true e r = let k : cond true 1 0 + total (λ t. cond (eqb (node t) n) 1 0) xs ≡ 0 = rw e at h in absurd (omega arith)
       go false e r = let k : cond false 1 0 + total (λ t. cond (eqb (node t) n) 1 0) xs ≡ 0 = rw e at h in let j = r (omega arith) in omega arith
 
 positions : (all pre xs : List Tree) → all ≡ pre ++ xs → ((n : ℕ) → total (λ t. is n (node t)) all ≤ 1)
-  → (k : ℕ) → k ≡ suc (length pre) → All (λ z. suc (leading (λ t. not (eqb (node t) (node (z .1)))) all) ≡ z .0) (numbered k xs)
+    → (k : ℕ) → k ≡ suc (length pre) → All (λ z. suc (leading (λ t. not (eqb (node t) (node (z .1)))) all) ≡ z .0) (numbered k xs)
 unfolding is
 positions all pre [] e h k q = tt
 positions all pre (x ∷ xs) e h k q = (first, positions all (pre ++ (x ∷ [])) xs (e ∙ sym (append-snoc pre x xs)) h (suc k) (let z = length-append pre (x ∷ []) in omega arith))
@@ -121,6 +121,7 @@ positions all pre (x ∷ xs) e h k q = (first, positions all (pre ++ (x ∷ []))
         let a : total (λ t. is (node x) (node t)) (pre ++ x ∷ xs) ≤ 1 = subst (λ ts. total (λ t. is (node x) (node t)) ts ≤ 1) e (h (node x)) in
         let b = total-append (λ t. is (node x) (node t)) pre (x ∷ xs) in
         let c : is (node x) (node x) ≡ 1 = ap (λ b. cond b 1 0) (eq-eqb (node x) (node x) refl) in omega arith
+
     first : suc (leading (λ t. not (eqb (node t) (node x))) all) ≡ k
     first =
         let a : leading (λ t. not (eqb (node t) (node x))) all ≡ length pre + leading (λ t. not (eqb (node t) (node x))) (x ∷ xs) = ap (leading (λ t. not (eqb (node t) (node x)))) e ∙ passing (node x) pre (x ∷ xs) none in
@@ -178,6 +179,7 @@ module _ (m : Model) (s : Sound m) (w : PlacedOnce m (s .tree)) (above : ℕ →
   root (sum k x t) h = h .0 .0
   root (action k a es x v t) h = h .0 .0
   root (delay k r t) h = h .0 .0
+
   at-rest : (t : Tree) → Numbered m (s .tree) t → All (λ u. node u < m .nodes) (rest (next t))
   at-rest (call k p es) h = tt
   at-rest (when k e t) h = (h .0 .0, tt)
@@ -185,6 +187,7 @@ module _ (m : Model) (s : Sound m) (w : PlacedOnce m (s .tree)) (above : ℕ →
   at-rest (sum k x t) h = (h .0 .0, tt)
   at-rest (action k a es x v t) h = (h .0 .0, tt)
   at-rest (delay k r t) h = (h .0 .0, tt)
+
   roots : (t : Tree) → Numbered m (s .tree) t → All (λ u. node u < m .nodes) (below t)
   roots (call k p es) h = tt
   roots (when k e t) h = roots t (h .1)
@@ -192,6 +195,7 @@ module _ (m : Model) (s : Sound m) (w : PlacedOnce m (s .tree)) (above : ℕ →
   roots (sum k x t) h = roots t (h .1)
   roots (action k a es x v t) h = all-append _ (rest (next t)) (below t) (at-rest t (h .1)) (roots t (h .1))
   roots (delay k r t) h = all-append _ (rest (next t)) (below t) (at-rest t (h .1)) (roots t (h .1))
+
   here : All (λ t. node t < m .nodes) (unsorted m)
   here = all-joined _ (λ q. q .body ∷ below (q .body)) (m .processes) (all-weaker _ _ (λ q h. (root (q .body) h, roots (q .body) h)) (m .processes) (s .numbered))
 
@@ -226,8 +230,8 @@ module _ (m : Model) (s : Sound m) (w : PlacedOnce m (s .tree)) (above : ℕ →
   known : All Known (places m)
   known =
       all-inOrder Known node (m .nodes) (unsorted m)
-        (all-joined Known (λ q. q .body ∷ below (q .body)) (m .processes)
-          (all-weaker _ _ (λ q h. ((h .0, h .1 .1, h .1 .0), known-below (q .body) (h .0) (h .1 .1))) (m .processes) (all-two _ _ (m .processes) (s .numbered) bodies)))
+      (all-joined Known (λ q. q .body ∷ below (q .body)) (m .processes)
+      (all-weaker _ _ (λ q h. ((h .0, h .1 .1, h .1 .0), known-below (q .body) (h .0) (h .1 .1))) (m .processes) (all-two _ _ (m .processes) (s .numbered) bodies)))
 
   -- Each action or delay node gives one way, in node order, with what stands above it.
   pub by-node : allWays m ≡ joined (λ i. replicate (isLeaf (s .tree i)) (wayTo m (s .tree) above i)) (counting 0 (m .nodes))
@@ -237,17 +241,20 @@ module _ (m : Model) (s : Sound m) (w : PlacedOnce m (s .tree)) (above : ℕ →
     where
       list : List (ℕ × Way)
       list = joined (λ (z : ℕ × Tree). map {B = ℕ × Way} (λ y. (z .0, y)) (ways (z .1))) (numbered 1 (places m))
+
       are : All (λ z. z ≡ wayTo m (s .tree) above (z .1 .leaf)) list
       are =
           all-joined _ (λ (z : ℕ × Tree). map {B = ℕ × Way} (λ y. (z .0, y)) (ways (z .1))) (numbered 1 (places m))
-            (all-weaker _ _ (λ z k. all-map _ (λ y. (z .0, y)) (ways (z .1)) (all-weaker _ _ (λ y f. tagged m (s .tree) above (z .0) y f) (ways (z .1)) (ways-above m (s .tree) above (z .1) (placeItself (z .0)) (k .0 .0) (k .0 .1) (k .0 .2 ∙ ap placeItself (k .1))))) (numbered 1 (places m))
-              (all-two _ _ (numbered 1 (places m)) (all-numbered Known 1 (places m) known) (positions (places m) [] (places m) refl places-once 1 refl)))
+          (all-weaker _ _ (λ z k. all-map _ (λ y. (z .0, y)) (ways (z .1)) (all-weaker _ _ (λ y f. tagged m (s .tree) above (z .0) y f) (ways (z .1)) (ways-above m (s .tree) above (z .1) (placeItself (z .0)) (k .0 .0) (k .0 .1) (k .0 .2 ∙ ap placeItself (k .1))))) (numbered 1 (places m))
+          (all-two _ _ (numbered 1 (places m)) (all-numbered Known 1 (places m) known) (positions (places m) [] (places m) refl places-once 1 refl)))
+
       counted : (i : ℕ) → total (λ z. is i (z .1 .leaf)) list ≡ total (leafs i) (unsorted m)
       counted i =
           total-joined (λ (z : ℕ × Way). is i (z .1 .leaf)) (λ (z : ℕ × Tree). map {B = ℕ × Way} (λ y. (z .0, y)) (ways (z .1))) (numbered 1 (places m))
           ∙ ap (λ g. total g (numbered 1 (places m))) (fun-ext (λ z. total-map (λ (z : ℕ × Way). is i (z .1 .leaf)) (λ y. (z .0, y)) (ways (z .1))))
           ∙ total-numbered (leafs i) 1 (places m)
           ∙ total-inOrder (leafs i) node (m .nodes) (unsorted m) here
+
       joined-same : {X Z : Type 0} (f g : X → List Z) (xs : List X) → All (λ x. f x ≡ g x) xs → joined f xs ≡ joined g xs
       joined-same f g [] a = refl
       joined-same f g (x ∷ xs) a = ap₂ {C = List _} _++_ (a .0) (joined-same f g xs (a .1))

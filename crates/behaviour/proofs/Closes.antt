@@ -52,6 +52,7 @@ module _ (L : Meaning) (m : Model) where
         where
           inside : x < length ρ → getD (set ρ x d) y 0 < getD (m .sizes) y 0
           inside j = rw e (subst (λ v. v < getD (m .sizes) x 0) (sym (getD-set-same ρ x d 0 j)) l)
+
           outside : length ρ ≤ x → getD (set ρ x d) y 0 < getD (m .sizes) y 0
           outside j = subst (λ (τ : List ℕ). getD τ y 0 < getD (m .sizes) y 0) (sym (set-out ρ x d j)) (b y i)
 
@@ -89,7 +90,7 @@ module _ (L : Meaning) (m : Model) (law : Lawful L) (fits : Fitted L m) (s : Sou
   arrives-in n l τ b = (shaped n l τ, λ x i. subst (λ v. v < getD (m .sizes) x 0) (sym (getD-each m _ x 0 i)) (enters (getD (entriesOf L m n) x Reset) τ x i b))
 
   pub landing : (k : ℕ) (ts : List Tree) → All (Good L m law fits s (Found L m)) ts
-    → All (λ (z : ℕ × Way). Lands L m (z .1 .then)) (joined (λ (z : ℕ × Tree). map {B = ℕ × Way} (λ y. (z .0, y)) (ways (z .1))) (numbered k ts))
+      → All (λ (z : ℕ × Way). Lands L m (z .1 .then)) (joined (λ (z : ℕ × Tree). map {B = ℕ × Way} (λ y. (z .0, y)) (ways (z .1))) (numbered k ts))
   landing k [] a = tt
   landing k (t ∷ ts) a = all-append _ _ _ (all-map (λ (z : ℕ × Way). Lands L m (z .1 .then)) (λ y. (k, y)) (ways t) (ways-land L m law fits s t (a .0 .1) (a .0 .3))) (landing (suc k) ts (a .1))
 
@@ -100,12 +101,12 @@ module _ (L : Meaning) (m : Model) (law : Lawful L) (fits : Fitted L m) (s : Sou
   way-in y l ρ b = spread-below L m _ (y .sums) _ (λ τ c. all-cond _ (allHold L (y .conditions) τ) _ (does-below L m (InSet m) (y .doing) _ (arrives-in (y .then) l) τ c)) ρ b
 
   part : {D : Type 0} (doing : D → Does) (pick : Does → List D) → ((k : Does) → All (λ d. doing d ≡ k) (pick k)) → (v : Vector) → InSet m v
-    → All (To (InSet m)) (transitionsBy L (m .sizes) doing (summandsOf L m pick (allWays m)) v)
+      → All (To (InSet m)) (transitionsBy L (m .sizes) doing (summandsOf L m pick (allWays m)) v)
   part {D} doing pick picks v i =
       all-joined _ (λ (u : Summand D). cond (eqb (u .when .counter) (v .counter)) (fires L (m .sizes) doing u (v .values)) []) (summandsOf L m pick (allWays m))
-        (all-weaker (λ (u : Summand D). All (To (InSet m)) (fires L (m .sizes) doing u (v .values))) _ (λ u a. all-cond _ (eqb (u .when .counter) (v .counter)) (fires L (m .sizes) doing u (v .values)) a) (summandsOf L m pick (allWays m))
-          (all-joined _ (λ (z : ℕ × Way). map (summand L m z) (pick (z .1 .doing))) (allWays m)
-            (all-weaker _ _ (λ z l. all-map _ (summand L m z) (pick (z .1 .doing)) (all-weaker _ _ (λ d e. subst (λ k. All (To (InSet m)) (wayDoes L m (z .1) k (v .values))) (sym e) (way-in (z .1) l (v .values) (i .1))) (pick (z .1 .doing)) (picks (z .1 .doing)))) (allWays m) all-land)))
+      (all-weaker (λ (u : Summand D). All (To (InSet m)) (fires L (m .sizes) doing u (v .values))) _ (λ u a. all-cond _ (eqb (u .when .counter) (v .counter)) (fires L (m .sizes) doing u (v .values)) a) (summandsOf L m pick (allWays m))
+      (all-joined _ (λ (z : ℕ × Way). map (summand L m z) (pick (z .1 .doing))) (allWays m)
+      (all-weaker _ _ (λ z l. all-map _ (summand L m z) (pick (z .1 .doing)) (all-weaker _ _ (λ d e. subst (λ k. All (To (InSet m)) (wayDoes L m (z .1) k (v .values))) (sym e) (way-in (z .1) l (v .values) (i .1))) (pick (z .1 .doing)) (picks (z .1 .doing)))) (allWays m) all-land)))
 
   acts-picks : (k : Does) → All (λ d. acting d ≡ k) (actsIn k)
   acts-picks (acts a es x w) = (refl, tt)
@@ -120,10 +121,13 @@ module _ (L : Meaning) (m : Model) (law : Lawful L) (fits : Fitted L m) (s : Sou
 
 module _ (L : Meaning) (m : Model) (law : Lawful L) (fits : Fitted L m) (s : Sound m) where
   pub term-in : (t : Tree) (v : ℕ → ℕ) → Found L m t → ((x : ℕ) → x < length (m .sizes) → v x < getD (m .sizes) x 0) → InTerms L m (term L (m .sizes) t v)
-  term-in t v f b =
-      (ap node (f .0), f .1, length-map-counting _ 0 (length (m .sizes)),
-       (λ x l. subst (λ n. n < getD (m .sizes) x 0) (sym (getD-each m _ x 0 l)) (small x l (free L t x))),
-       (λ x l e. getD-each m _ x 0 l ∙ ap (λ b. cond b (v x) 0) (ap (λ u. free L u x) (sym (f .0)) ∙ e)))
+  term-in t v f b = (
+    ap node (f .0),
+    f .1,
+    length-map-counting _ 0 (length (m .sizes)),
+    (λ x l. subst (λ n. n < getD (m .sizes) x 0) (sym (getD-each m _ x 0 l)) (small x l (free L t x))),
+    (λ x l e. getD-each m _ x 0 l ∙ ap (λ b. cond b (v x) 0) (ap (λ u. free L u x) (sym (f .0)) ∙ e)),
+  )
     where
       small : (x : ℕ) → x < length (m .sizes) → (c : Bool) → cond c (v x) 0 < getD (m .sizes) x 0
       small x l true = b x l
@@ -150,7 +154,9 @@ module _ (L : Meaning) (m : Model) (law : Lawful L) (fits : Fitted L m) (s : Sou
     where
       u : Tree
       u = place m (counter m (t .place))
+
       g : Good L m law fits s (Found L m) u
       g = all-getD (Good L m law fits s (Found L m)) (places m) (counter m (t .place) - 1) (call 0 0 []) (omega (arith, i .1)) (good L m law fits s)
+
       same : u ≡ s .tree (t .place)
       same = sym (here L m law fits s u (g .2) .1) ∙ ap (s .tree) (i .0)

@@ -33,7 +33,7 @@ fresh-sums L S (when n e t) s = all-map (λ y. All (λ x. S x ≡ false) (y .sum
 fresh-sums L S (choice n l r) s = all-append _ (ways l) (ways r) (fresh-sums L S l (s .0)) (fresh-sums L S r (s .1))
 fresh-sums L S (sum n x t) s =
     all-map (λ y. All (λ z. S z ≡ false) (y .sums)) (addSum x) (ways t)
-      (all-weaker _ _ (λ y a. (s .0, all-weaker _ _ (λ z e. or-parts (eqb x z) (S z) e .1) (y .sums) a)) (ways t) (fresh-sums L (adding x S) t (s .1)))
+    (all-weaker _ _ (λ y a. (s .0, all-weaker _ _ (λ z e. or-parts (eqb x z) (S z) e .1) (y .sums) a)) (ways t) (fresh-sums L (adding x S) t (s .1)))
 fresh-sums L S (action n a es x w t) s = (tt, tt)
 fresh-sums L S (delay n r t) s = (tt, tt)
 
@@ -47,7 +47,7 @@ module _ (L : Meaning) (law : Lawful L) (m : Model) where
       ap (λ v. not (eqb v 0)) (law .agrees e (set ρ x d) ρ (λ y k. getD-set-other ρ x y d 0 (λ q. both-ways (S x) o (subst (λ z. S z ≡ true) q (w .1 y k)))))
 
   guard : {X : Type 0} (e : ℕ) (xs : List ℕ) (b : List ℕ → Bool) (k : List ℕ → List X) → All (λ x. (d : ℕ) (ρ : List ℕ) → holds L e (set ρ x d) ≡ holds L e ρ) xs → (ρ : List ℕ)
-    → spread (m .sizes) xs (λ τ. cond (holds L e τ && b τ) (k τ) []) ρ ≡ cond (holds L e ρ) (spread (m .sizes) xs (λ τ. cond (b τ) (k τ) []) ρ) []
+      → spread (m .sizes) xs (λ τ. cond (holds L e τ && b τ) (k τ) []) ρ ≡ cond (holds L e ρ) (spread (m .sizes) xs (λ τ. cond (b τ) (k τ) []) ρ) []
   guard {X} e [] b k a ρ = go (holds L e ρ)
     where
       go : (h : Bool) → cond (h && b ρ) (k ρ) [] ≡ cond h (cond (b ρ) (k ρ) []) []

@@ -71,21 +71,24 @@ module _ (L : Meaning) (m : Model) (law : Lawful L) (fits : Fitted L m) (s : Sou
   start-stands =
       ap (λ u. term L (m .sizes) u (λ x. getD (each (m .sizes) (startValue m)) x 0)) (start-found .0)
       ∙ ap (λ (vs : List ℕ). record { place = node (process m (m .begins) .body); values = vs })
-          (each-same m _ _ (λ x l. ap (λ n. cond (free L (process m (m .begins) .body) x) n 0) (getD-each m (startValue m) x 0 l)))
+      (each-same m _ _ (λ x l. ap (λ n. cond (free L (process m (m .begins) .body) x) n 0) (getD-each m (startValue m) x 0 l)))
 
   -- a transition of a vector is derived by the term that it stands for
   pub transfer : (v : Vector) → Shaped m v → (u : Transition Vector) → In u (transitionsIn L (equationOf L m) v)
-    → (D : List Rule) × Derivation L m (s .tree (stands L m v .place)) (stands L m v .values) D (transitionTo (stands L m) u)
+      → (D : List Rule) × Derivation L m (s .tree (stands L m v .place)) (stands L m v .values) D (transitionTo (stands L m) u)
   transfer v i u j =
       let z = positive (λ z. Derives L m t ρ (z .by) (z .gives)) (λ z. f (z .gives)) (derived L m t ρ) (derive L m t ρ) some-one in
       (z .0 .by, to L m (subst (λ x. Derives L m t ρ (z .0 .by) x) (sym (transition-true (transitionTo (stands L m) u) (z .0 .gives) (hit (sameTransition (transitionTo (stands L m) u) (z .0 .gives)) (z .2)))) (z .1)))
     where
       t : Tree
       t = s .tree (stands L m v .place)
+
       ρ : List ℕ
       ρ = stands L m v .values
+
       f : Transition Term → ℕ
       f x = cond (sameTransition (transitionTo (stands L m) u) x) 1 0
+
       some-one : 0 < total (λ z. f (z .gives)) (derived L m t ρ)
       some-one =
           let a : total f (transitions L m t ρ) ≡ total f (standing L m v) = kept L m law fits s f v i in
@@ -97,7 +100,7 @@ module _ (L : Meaning) (m : Model) (law : Lawful L) (fits : Fitted L m) (s : Sou
 
   -- what the term derives, the vector has
   pub finds : (z : Transition Term) (D : List Rule) (v : Vector) → Shaped m v → Derivation L m (s .tree (stands L m v .place)) (stands L m v .values) D z
-    → 0 < total (λ y. cond (sameTransition z (transitionTo (stands L m) y)) 1 0) (transitionsIn L (equationOf L m) v)
+      → 0 < total (λ y. cond (sameTransition z (transitionTo (stands L m) y)) 1 0) (transitionsIn L (equationOf L m) v)
   finds z D v i d =
       let a : total (λ y. cond (sameRules D (y .by)) (g (y .gives)) 0) (derived L m t ρ) ≡ g z = sym (sumBy-total _ (derived L m t ρ)) ∙ enumerates L m t ρ .once D z (fro L m d) g in
       let b : g z ≡ 1 = ap (λ b. cond b 1 0) (transition-refl z) in
@@ -109,7 +112,9 @@ module _ (L : Meaning) (m : Model) (law : Lawful L) (fits : Fitted L m) (s : Sou
     where
       t : Tree
       t = s .tree (stands L m v .place)
+
       ρ : List ℕ
       ρ = stands L m v .values
+
       g : Transition Term → ℕ
       g x = cond (sameTransition z x) 1 0

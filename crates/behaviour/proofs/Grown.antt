@@ -92,6 +92,7 @@ module _ (g : Flat) (owner : ℕ → ℕ) where
     where
       good : (c : ℕ) → Kid g n c → Fine (suc n) (kid c)
       good c i = let f = subst (Fine c) (sym (h c i .0)) (h c i .1) in (f .0, f .1, raise (suc n) c (kid c) (i .0) (f .2))
+
       go : (k : Shape) → Kids g n k → Binds owner n k → T n ≡ planted g n k kid → Fine n (planted g n k kid)
       go (shape.Call p y) j b q = ((l, q), (subst (λ z. p < z) (sym (length-map (g .processes) _)) (j .0), j .1 ∙ sym (params-are p (j .0))), tt)
       go (shape.Condition x c) j b q = let f = good c j in (((l, q), f .0), f .1, (omega arith, f .2))
@@ -101,37 +102,40 @@ module _ (g : Flat) (owner : ℕ → ℕ) where
       go (shape.Delay r c) j b q = let f = good c j in (((l, q), f .0), f .1, (omega arith, f .2))
 
   pub fine : (i : ℕ) (ks : List Shape) → i + length ks ≡ length (g .nodes) → ((j : ℕ) → i ≤ j → T j ≡ getD (grown g i ks) (j - i) (call 0 0 [])) → KidsFrom g i ks → BindsFrom owner i ks
-    → (j : ℕ) → i ≤ j → j < length (g .nodes) → Fine j (T j)
+      → (j : ℕ) → i ≤ j → j < length (g .nodes) → Fine j (T j)
   fine i [] e h a b j lo hi = absurd (omega arith)
   fine i (k ∷ ks) e h a b j lo hi = step (fine (suc i) ks (omega arith) shift (a .1) (b .1))
     where
       shift : (c : ℕ) → suc i ≤ c → T c ≡ getD (grown g (suc i) ks) (c - suc i) (call 0 0 [])
       shift c l = let q : c - i ≡ suc (c - suc i) = omega arith in h c (omega arith) ∙ ap (λ n. getD (grown g i (k ∷ ks)) n (call 0 0 [])) q
+
       step : ((c : ℕ) → suc i ≤ c → c < length (g .nodes) → Fine c (T c)) → Fine j (T j)
       step rest = ⊎-elim first (λ n. rest j (omega (arith, n)) hi) (cases-eq j i)
         where
           first : j ≡ i → Fine j (T j)
           first q =
               subst (λ n. Fine n (T n)) (sym q)
-                (made i k (λ c. getD (grown g (suc i) ks) (c - suc i) (call 0 0 [])) (omega arith)
-                  (let z : i - i ≡ 0 = omega arith in h i (omega arith) ∙ ap (λ n. getD (grown g i (k ∷ ks)) n (call 0 0 [])) z)
-                  (λ c y. (sym (shift c (y .0)), rest c (y .0) (y .1))) (a .0) (b .0))
+              (made i k (λ c. getD (grown g (suc i) ks) (c - suc i) (call 0 0 [])) (omega arith)
+              (let z : i - i ≡ 0 = omega arith in h i (omega arith) ∙ ap (λ n. getD (grown g i (k ∷ ks)) n (call 0 0 [])) z)
+              (λ c y. (sym (shift c (y .0)), rest c (y .0) (y .1))) (a .0) (b .0))
 
 unfoldable pub sound : (g : Flat) → WellMade g → Sound (modelOf g)
 sound g w = record {
-    tree = treeOf g;
-    numbered = all-map (λ q. Numbered (modelOf g) (treeOf g) (q .body)) (headed g) (g .processes) (all-weaker _ _ (λ q z. z .0) (g .processes) bodies);
-    called = all-map (λ q. Calls (modelOf g) (q .body)) (headed g) (g .processes) (all-weaker _ _ (λ q z. z .1) (g .processes) bodies);
-    starts = subst (λ n. g .start < n) (sym (length-map (g .processes) _)) (w .starts);
-    sizes = w .sizes;
-    values = w .values;
-    owner = w .owner;
-    owned = all-map (λ q. ((x : ℕ) → param q x ≡ true → w .owner x ≡ 0) × Owned (w .owner) 0 (q .body)) (headed g) (g .processes) (both (g .processes) (w .ownParams) bodies) }
+  tree = treeOf g;
+  numbered = all-map (λ q. Numbered (modelOf g) (treeOf g) (q .body)) (headed g) (g .processes) (all-weaker _ _ (λ q z. z .0) (g .processes) bodies);
+  called = all-map (λ q. Calls (modelOf g) (q .body)) (headed g) (g .processes) (all-weaker _ _ (λ q z. z .1) (g .processes) bodies);
+  starts = subst (λ n. g .start < n) (sym (length-map (g .processes) _)) (w .starts);
+  sizes = w .sizes;
+  values = w .values;
+  owner = w .owner;
+  owned = all-map (λ q. ((x : ℕ) → param q x ≡ true → w .owner x ≡ 0) × Owned (w .owner) 0 (q .body)) (headed g) (g .processes) (both (g .processes) (w .ownParams) bodies);
+}
   where
     bodies : All (λ q. Fine g (w .owner) (q .body) (treeOf g (q .body))) (g .processes)
     bodies = all-weaker _ _ (λ q l. fine g (w .owner) 0 (g .nodes) (omega arith) (λ j z. let e : j - 0 ≡ j = omega arith in sym (ap (λ n. getD (grown g 0 (g .nodes)) n (call 0 0 [])) e)) (w .kids) (w .binds) (q .body) (omega arith) l) (g .processes) (w .bodies)
+
     both : (qs : List header.Process) → All (λ q. (x : ℕ) → param (headed g q) x ≡ true → w .owner x ≡ 0) qs → All (λ q. Fine g (w .owner) (q .body) (treeOf g (q .body))) qs
-      → All (λ q. ((x : ℕ) → param (headed g q) x ≡ true → w .owner x ≡ 0) × Owned (w .owner) 0 (treeOf g (q .body))) qs
+        → All (λ q. ((x : ℕ) → param (headed g q) x ≡ true → w .owner x ≡ 0) × Owned (w .owner) 0 (treeOf g (q .body))) qs
     both [] a b = tt
     both (q ∷ qs) a b = ((a .0, raise g (w .owner) 0 (q .body) (treeOf g (q .body)) (omega arith) (b .0 .2)), both qs (a .1) (b .1))
 
@@ -140,12 +144,13 @@ pub tree-is : (g : Flat) → KidsFrom g 0 (g .nodes) → (d : Shape) (n : ℕ) �
 tree-is g ks d n l = go 0 (g .nodes) (λ j z. let e : j - 0 ≡ j = omega arith in sym (ap (λ i. getD (grown g 0 (g .nodes)) i (call 0 0 [])) e)) (λ j z. let e : j - 0 ≡ j = omega arith in sym (ap (λ i. getD (g .nodes) i d) e)) ks n (omega arith) (omega arith)
   where
     go : (i : ℕ) (ks : List Shape) → ((j : ℕ) → i ≤ j → treeOf g j ≡ getD (grown g i ks) (j - i) (call 0 0 [])) → ((j : ℕ) → i ≤ j → getD (g .nodes) j d ≡ getD ks (j - i) d) → KidsFrom g i ks
-      → (j : ℕ) → i ≤ j → j < i + length ks → treeOf g j ≡ planted g j (getD (g .nodes) j d) (treeOf g)
+        → (j : ℕ) → i ≤ j → j < i + length ks → treeOf g j ≡ planted g j (getD (g .nodes) j d) (treeOf g)
     go i [] h p a j lo hi = absurd (omega arith)
     go i (k ∷ ks) h p a j lo hi = ⊎-elim first (λ n. go (suc i) ks shift (λ c l. let q : c - i ≡ suc (c - suc i) = omega arith in p c (omega arith) ∙ ap (λ n. getD (k ∷ ks) n d) q) (a .1) j (omega (arith, n)) (omega arith)) (cases-eq j i)
       where
         shift : (c : ℕ) → suc i ≤ c → treeOf g c ≡ getD (grown g (suc i) ks) (c - suc i) (call 0 0 [])
         shift c l = let q : c - i ≡ suc (c - suc i) = omega arith in h c (omega arith) ∙ ap (λ n. getD (grown g i (k ∷ ks)) n (call 0 0 [])) q
+
         first : j ≡ i → treeOf g j ≡ planted g j (getD (g .nodes) j d) (treeOf g)
         first q =
             let z : i - i ≡ 0 = omega arith in

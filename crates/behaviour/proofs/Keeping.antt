@@ -30,8 +30,12 @@ keeps L m law fits s =
       same = λ v i f. counted L m law h s f v (i .0);
       closed = closes L m law h s;
       termsClosed = terms-close L m law h s;
-      starts =
-        (((omega arith, start-found L m law h s .1, length-map-counting _ 0 (length (m .sizes))),
-          λ x l. subst (λ n. n < getD (m .sizes) x 0) (sym (getD-each m (startValue m) x 0 l)) (start-small m s x l)),
-         term-in L m law h s (process m (m .begins) .body) (startValue m) (start-found L m law h s) (λ x l. start-small m s x l),
-         start-stands L m law h s) }
+      starts = (
+        (
+          (omega arith, start-found L m law h s .1, length-map-counting _ 0 (length (m .sizes))),
+          λ x l. subst (λ n. n < getD (m .sizes) x 0) (sym (getD-each m (startValue m) x 0 l)) (start-small m s x l),
+        ),
+        term-in L m law h s (process m (m .begins) .body) (startValue m) (start-found L m law h s) (λ x l. start-small m s x l),
+        start-stands L m law h s,
+      );
+    }

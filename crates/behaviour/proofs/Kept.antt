@@ -76,7 +76,7 @@ first-found tree d n [] a h = absurd (omega arith)
 first-found tree d n (x ∷ xs) a h = go (eqb (node x) n) refl (λ k. first-found tree d n xs (a .1) k)
   where
     go : (b : Bool) → eqb (node x) n ≡ b → (0 < total (λ t. cond (eqb (node t) n) 1 0) xs → getD xs (leading (λ t. not (eqb (node t) n)) xs) d ≡ tree n)
-      → getD (x ∷ xs) (cond (not b) (1 + leading (λ t. not (eqb (node t) n)) xs) 0) d ≡ tree n
+        → getD (x ∷ xs) (cond (not b) (1 + leading (λ t. not (eqb (node t) n)) xs) 0) d ≡ tree n
     go true e ih = sym (a .0) ∙ ap tree (eqb-true _ _ e)
     go false e ih =
         let k : 0 < cond false 1 0 + total (λ t. cond (eqb (node t) n) 1 0) xs = rw e at h in
@@ -95,8 +95,9 @@ pick {X} h d c k (x ∷ xs) l u = ⊎-elim same (λ ne. other ne (pick h d c (su
     same e =
         let z : c - k ≡ 0 = omega arith in let r = pick-none h c (suc k) xs (omega arith) in
         let q = eq-eqb k c e in rw (q, z) (omega arith)
+
     other : (k ≡ c → ⊥) → total (λ z. cond (eqb (z .0) c) (h (z .1)) 0) (numbered (suc k) xs) ≡ h (getD xs (c - suc k) d)
-      → cond (eqb k c) (h x) 0 + total (λ z. cond (eqb (z .0) c) (h (z .1)) 0) (numbered (suc k) xs) ≡ h (getD (x ∷ xs) (c - k) d)
+        → cond (eqb k c) (h x) 0 + total (λ z. cond (eqb (z .0) c) (h (z .1)) 0) (numbered (suc k) xs) ≡ h (getD (x ∷ xs) (c - k) d)
     other ne ih =
         let z : c - k ≡ suc (c - suc k) = omega (arith, ne) in
         let q = ne-eqb k c ne in rw (q, z) (omega arith)
@@ -107,7 +108,7 @@ leading-within n [] h = absurd (omega arith)
 leading-within n (x ∷ xs) h = go (eqb (node x) n) refl (λ k. leading-within n xs k)
   where
     go : (b : Bool) → eqb (node x) n ≡ b → (0 < total (λ t. cond (eqb (node t) n) 1 0) xs → leading (λ t. not (eqb (node t) n)) xs < length xs)
-      → cond (not b) (1 + leading (λ t. not (eqb (node t) n)) xs) 0 < suc (length xs)
+        → cond (not b) (1 + leading (λ t. not (eqb (node t) n)) xs) 0 < suc (length xs)
     go true e ih = omega arith
     go false e ih =
         let k : 0 < cond false 1 0 + total (λ t. cond (eqb (node t) n) 1 0) xs = rw e at h in
@@ -156,7 +157,7 @@ module _ (L : Meaning) (m : Model) (law : Lawful L) (fits : Fitted L m) (s : Sou
   good-raw R a = all-joined (Good R) (λ q. q .body ∷ below (q .body)) (m .processes) (go (m .processes) fits (s .called) (s .numbered) (all-parts R (λ q. q .body ∷ below (q .body)) (m .processes) a))
     where
       go : (qs : List Process) → All (λ q. Scoped L (param q) (q .body)) qs → All (λ q. Calls m (q .body)) qs → All (λ q. Numbered m (s .tree) (q .body)) qs
-        → All (λ q. All R (q .body ∷ below (q .body))) qs → All (λ q. All (Good R) (q .body ∷ below (q .body))) qs
+          → All (λ q. All R (q .body ∷ below (q .body))) qs → All (λ q. All (Good R) (q .body ∷ below (q .body))) qs
       go [] f c n b = tt
       go (q ∷ qs) f c n b =
           ((((param q, f .0), c .0, n .0, b .0 .1), good-below R (param q) (q .body) (f .0) (c .0) (n .0) (b .0 .1)), go qs (f .1) (c .1) (n .1) (b .1))
@@ -174,11 +175,12 @@ module _ (L : Meaning) (m : Model) (law : Lawful L) (fits : Fitted L m) (s : Sou
           let k = leading (λ u. not (eqb (node u) (node t))) (places m) in
           let e : suc k - 1 ≡ k = omega arith in
           let there : 0 < withNode (node t) (places m) =
-            subst (λ n. 0 < n) (sym (total-inOrder (λ u. cond (eqb (node u) (node t)) 1 0) node (m .nodes) raw (all-weaker _ _ (λ u g. g .0) raw raw-here))) (h .1) in
-          (ap (λ i. getD (places m) i (call 0 0 [])) e
-           ∙ first-found (s .tree) (call 0 0 []) (node t) (places m) (all-inOrder _ node (m .nodes) raw (all-weaker _ _ (λ u g. g .1) raw raw-here)) there
-           ∙ h .0 .1,
-           leading-within (node t) (places m) there)
+          subst (λ n. 0 < n) (sym (total-inOrder (λ u. cond (eqb (node u) (node t)) 1 0) node (m .nodes) raw (all-weaker _ _ (λ u g. g .0) raw raw-here))) (h .1) in (
+            ap (λ i. getD (places m) i (call 0 0 [])) e
+                ∙ first-found (s .tree) (call 0 0 []) (node t) (places m) (all-inOrder _ node (m .nodes) raw (all-weaker _ _ (λ u g. g .1) raw raw-here)) there
+                ∙ h .0 .1,
+            leading-within (node t) (places m) there,
+          )
 
   pub good : All (Good (Found L m)) (places m)
   unfolding raw
@@ -233,7 +235,7 @@ module _ (L : Meaning) (m : Model) (law : Lawful L) (fits : Fitted L m) (s : Sou
     ofWay z k = cond (eqb (z .0) (v .counter)) (total F (wayDoes L m (z .1) k (v .values))) 0
 
     part : {D : Type 0} (doing : D → Does) (pick : Does → List D)
-      → total F (transitionsBy L (m .sizes) doing (summandsOf L m pick (allWays m)) v) ≡ total (λ (z : ℕ × Way). total (λ d. ofWay z (doing d)) (pick (z .1 .doing))) (allWays m)
+        → total F (transitionsBy L (m .sizes) doing (summandsOf L m pick (allWays m)) v) ≡ total (λ (z : ℕ × Way). total (λ d. ofWay z (doing d)) (pick (z .1 .doing))) (allWays m)
     unfolding F ofWay
     part {D} doing pick =
         total-joined F (λ (u : Summand D). cond (eqb (u .when .counter) (v .counter)) (fires L (m .sizes) doing u (v .values)) []) (summandsOf L m pick (allWays m))
@@ -257,7 +259,7 @@ module _ (L : Meaning) (m : Model) (law : Lawful L) (fits : Fitted L m) (s : Sou
         ∙ total-inOrder (λ (z : ℕ × Way). ofWay z (z .1 .doing)) (λ z. z .1 .leaf) (m .nodes) (joined (λ (z : ℕ × Tree). map {B = ℕ × Way} (λ y. (z .0, y)) (ways (z .1))) (numbered 1 (places m))) (keyed 1 (places m) good)
         ∙ total-joined (λ (z : ℕ × Way). ofWay z (z .1 .doing)) (λ (z : ℕ × Tree). map {B = ℕ × Way} (λ y. (z .0, y)) (ways (z .1))) (numbered 1 (places m))
         ∙ ap (λ g. total g (numbered 1 (places m)))
-            (fun-ext (λ z. total-map (λ (z : ℕ × Way). ofWay z (z .1 .doing)) (λ y. (z .0, y)) (ways (z .1)) ∙ total-cond-out (eqb (z .0) (v .counter)) (λ y. total F (wayDoes L m y (y .doing) (v .values))) (ways (z .1))))
+        (fun-ext (λ z. total-map (λ (z : ℕ × Way). ofWay z (z .1 .doing)) (λ y. (z .0, y)) (ways (z .1)) ∙ total-cond-out (eqb (z .0) (v .counter)) (λ y. total F (wayDoes L m y (y .doing) (v .values))) (ways (z .1))))
 
     pub kept : total f (termTransitions L m (s .tree) (stands L m v)) ≡ total f (standing L m v)
     unfolding F ofPlace
@@ -271,15 +273,19 @@ module _ (L : Meaning) (m : Model) (law : Lawful L) (fits : Fitted L m) (s : Sou
       where
         t : Tree
         t = place m (v .counter)
+
         g : Good (Found L m) t
         g = all-getD (Good (Found L m)) (places m) (v .counter - 1) (call 0 0 []) (omega (arith, inset .0, inset .1)) good
+
         longs : length (stands L m v .values) ≡ length (v .values)
         longs = length-map-counting _ 0 (length (m .sizes)) ∙ sym (inset .2)
+
         agrees : (x : ℕ) → g .0 .0 x ≡ true → named L t x ≡ true → Agrees (stands L m v .values) (v .values) x
         agrees x i n = ⊎-elim inside outside (cases-lt x (length (m .sizes)))
           where
             inside : x < length (m .sizes) → Agrees (stands L m v .values) (v .values) x
             inside l = getD-each m _ x 0 l ∙ ap₂ (λ a b. cond (a && not b) (getD (v .values) x 0) 0) n (unbound L (g .0 .0) t x (g .0 .1) i)
+
             outside : length (m .sizes) ≤ x → Agrees (stands L m v .values) (v .values) x
             outside l = List·getD-eq-default (stands L m v .values) 0 (omega (arith, longs, inset .2)) ∙ sym (List·getD-eq-default (v .values) 0 (omega (arith, inset .2)))
 

@@ -67,8 +67,10 @@ parent (child m k) = suc m
 module _ (bs : List ℕ) (w : WellFormed bs) where
   abbrev l : Layout
   l = layoutOf bs
+
   abbrev g : Flat
   g = flat bs
+
   abbrev K : ℕ
   K = nodeCount bs (layoutOf bs)
 
@@ -114,6 +116,7 @@ module _ (bs : List ℕ) (w : WellFormed bs) where
       stands (shape.Sum v y) is h = absurd h
       stands (shape.Action a f v x y) is h = (shape.Action a f v x y, is, omega arith, h)
       stands (shape.Delay r y) is h = (shape.Delay r y, is, omega arith, h)
+
       never : (s : Shape) → LeadsTo s c → passesTo (valueIn g (Some s)) c ≡ false
       never (shape.Call p f) h = refl
       never (shape.Condition x y) h = absurd h
@@ -121,6 +124,7 @@ module _ (bs : List ℕ) (w : WellFormed bs) where
       never (shape.Sum v y) h = absurd h
       never (shape.Action a f v x y) h = refl
       never (shape.Delay r y) h = refl
+
       yes : passesTo (nodeIn g i) c ≡ true → passesTo (nodeIn g i) c ≡ false
       yes e =
           let q : suc n ≡ suc i = only i c low (child n 0) (stands s is leads) e in
@@ -157,8 +161,9 @@ module _ (bs : List ℕ) (w : WellFormed bs) where
         rest-at : ((rules.IsCall bs l c) → ⊥) → Arrived (modelOf g) (treeOf g) up (next (treeOf g c))
         rest-at never =
             arrived (treeOf g c)
-              (subst (λ k. up k ≡ placeItself (counter (modelOf g) k)) (sym (number-of bs w c low))
-                (unhanded (nodeIn g) start c (moved-not n c s is leads low) ∙ starts c (inr ((n, s, is, leads), never))))
+            (subst (λ k. up k ≡ placeItself (counter (modelOf g) k)) (sym (number-of bs w c low))
+            (unhanded (nodeIn g) start c (moved-not n c s is leads low) ∙ starts c (inr ((n, s, is, leads), never))))
+
         go : (k : Shape) → IsNode bs l c k → treeOf g c ≡ planted g c k (treeOf g) → Arrived (modelOf g) (treeOf g) up (next (treeOf g c))
         go (shape.Call p f) i e = subst (λ t. Arrived (modelOf g) (treeOf g) up (next t)) (sym e) tt
         go (shape.Condition x y) i e = rest-at (λ q. let z : _≡_ {A = ℕ} 1 2 = ap (λ xs. getD xs 0 0) (sym (q .2 .1) ∙ i .1) in omega arith)
@@ -169,7 +174,7 @@ module _ (bs : List ℕ) (w : WellFormed bs) where
 
     -- what stands above a child of a condition, a choice, a sum
     at-child : (n c : ℕ) (o : Option NodeValue) (v : Guarded) → nodeIn g n ≡ o → n < c → c < K → passesTo o c ≡ true
-      → passed o (up n) (aboveAt (nodeIn g) start n) c ≡ v → up (node (treeOf g c)) ≡ v
+        → passed o (up n) (aboveAt (nodeIn g) start n) c ≡ v → up (node (treeOf g c)) ≡ v
     at-child n c o v e low high p q =
         ap up (number-of bs w c high)
         ∙ inner n c low (ap (λ y. passesTo y c) e ∙ p) high
@@ -187,18 +192,20 @@ module _ (bs : List ℕ) (w : WellFormed bs) where
         subst (Passes (modelOf g) (treeOf g) up) (sym (a .tree)) (go (z .0) (z .1) (a .there) (a .names) (λ c i j. passing b c (omega arith) j))
       where
         go : (s : Shape) → IsNode bs l n s → nodeIn g n ≡ valueIn g (Some s) → rules.Names bs l n s → ((c : ℕ) → n < c → c < K → Passes (modelOf g) (treeOf g) up (treeOf g c))
-          → Passes (modelOf g) (treeOf g) up (planted g n s (treeOf g))
+            → Passes (modelOf g) (treeOf g) up (planted g n s (treeOf g))
         go (shape.Call p f) is e ns ih = tt
         go (shape.Condition x c) is e ns ih =
             let q = eq-eqb c c refl in
             (at-child n c (Some (condition x c)) (andCondition x (up n)) e (ns .0) (ns .1) q (ap (λ t. cond t (andCondition x (up n)) (aboveAt (nodeIn g) start n c)) q), ih c (ns .0) (ns .1))
         go (shape.Choice x y) is e ns ih =
-            let qx = eq-eqb x x refl in let qy = eq-eqb y y refl in
-            (at-child n x (Some (choice x y)) (up n) e (ns .0 .0) (ns .0 .1) (or-right (eqb x y) (eqb x x) qx)
-               (ap (λ t. cond (eqb x y) (up n) (cond t (up n) (aboveAt (nodeIn g) start n x))) qx ∙ either (eqb x y) (up n)),
-             at-child n y (Some (choice x y)) (up n) e (ns .1 .0) (ns .1 .1) (or-left (eqb y y) (eqb y x) qy)
-               (ap (λ t. cond t (up n) (cond (eqb y x) (up n) (aboveAt (nodeIn g) start n y))) qy),
-             ih x (ns .0 .0) (ns .0 .1), ih y (ns .1 .0) (ns .1 .1))
+            let qx = eq-eqb x x refl in let qy = eq-eqb y y refl in (
+              at-child n x (Some (choice x y)) (up n) e (ns .0 .0) (ns .0 .1) (or-right (eqb x y) (eqb x x) qx)
+                  (ap (λ t. cond (eqb x y) (up n) (cond t (up n) (aboveAt (nodeIn g) start n x))) qx ∙ either (eqb x y) (up n)),
+              at-child n y (Some (choice x y)) (up n) e (ns .1 .0) (ns .1 .1) (or-left (eqb y y) (eqb y x) qy)
+                  (ap (λ t. cond t (up n) (cond (eqb y x) (up n) (aboveAt (nodeIn g) start n y))) qy),
+              ih x (ns .0 .0) (ns .0 .1),
+              ih y (ns .1 .0) (ns .1 .1),
+            )
         go (shape.Sum v c) is e ns ih =
             let q = eq-eqb c c refl in
             (at-child n c (Some (sum v c)) (andSum v (up n)) e (ns .1 .0) (ns .1 .1) q (ap (λ t. cond t (andSum v (up n)) (aboveAt (nodeIn g) start n c)) q), ih c (ns .1 .0) (ns .1 .1))
@@ -212,6 +219,6 @@ module _ (bs : List ℕ) (w : WellFormed bs) where
     pub all-pass : All (λ q. (up (node (q .body)) ≡ placeItself (counter (modelOf g) (node (q .body)))) × Passes (modelOf g) (treeOf g) up (q .body)) (modelOf g .processes)
     all-pass =
         all-map _ (headed g) (g .processes) (all-map _ (processOf bs l) (counting 0 (processCount bs l))
-          (all-counting _ 0 (processCount bs l) (processCount bs l) (omega arith) (λ p low.
-            let b = w .sound .bodies p low in
-            (subst (λ k. up k ≡ placeItself (counter (modelOf g) k)) (sym (number-of bs w (bodyOf bs l p) b)) (body-up p low), passing K (bodyOf bs l p) (omega arith) b))))
+        (all-counting _ 0 (processCount bs l) (processCount bs l) (omega arith) (λ p low.
+        let b = w .sound .bodies p low in
+        (subst (λ k. up k ≡ placeItself (counter (modelOf g) k)) (sym (number-of bs w (bodyOf bs l p) b)) (body-up p low), passing K (bodyOf bs l p) (omega arith) b))))

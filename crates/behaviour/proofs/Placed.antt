@@ -56,7 +56,7 @@ module _ (m : Model) (tree : ℕ → Tree) (i : ℕ) where
   by-parents (when n e t) h = at-root n (when n e t) (nodesOf t) _ _ (h .0 .1) refl (by-parents t (h .1))
   by-parents (choice n l r) h =
       at-root n (choice n l r) (nodesOf l ++ nodesOf r) _ _ (h .0 .1) refl
-        (let a = by-parents l (h .1) in let b = by-parents r (h .2) in let c = total-append (is i) (nodesOf l) (nodesOf r) in let d = total-append kidsAt (nodesOf l) (nodesOf r) in omega arith)
+      (let a = by-parents l (h .1) in let b = by-parents r (h .2) in let c = total-append (is i) (nodesOf l) (nodesOf r) in let d = total-append kidsAt (nodesOf l) (nodesOf r) in omega arith)
   by-parents (sum n x t) h = at-root n (sum n x t) (nodesOf t) _ _ (h .0 .1) refl (by-parents t (h .1))
   by-parents (action n a es x w t) h = at-root n (action n a es x w t) (nodesOf t) _ _ (h .0 .1) refl (by-parents t (h .1))
   by-parents (delay n r t) h = at-root n (delay n r t) (nodesOf t) _ _ (h .0 .1) refl (by-parents t (h .1))
@@ -127,6 +127,7 @@ spread-out f b xs l h =
   where
     nothing : (k : ℕ) → f k ≡ 0 → total (is k) xs * f k ≡ f k
     nothing k e = rw e (omega arith)
+
     single : (k : ℕ) → total (is k) xs ≡ 1 → total (is k) xs * f k ≡ f k
     single k e = rw e (omega arith)
 
@@ -164,7 +165,7 @@ module _ (m : Model) (s : Sound m) (w : PlacedOnce m (s .tree)) where
   occurs (suc b) n l i =
       let p = parents n in let q = w .placed n i in
       let e : total (λ k. kids (s .tree k) n) allNodes ≡ total (λ k. kids (s .tree k) n) (counting 0 (m .nodes)) =
-        spread-out (λ k. kids (s .tree k) n) (m .nodes) allNodes all-below (λ k j. ⊎-elim (λ (h : k < n). inr (occurs b k (omega arith) j)) (λ h. inl (w .higher k n h)) (cases-lt k n)) in
+      spread-out (λ k. kids (s .tree k) n) (m .nodes) allNodes all-below (λ k j. ⊎-elim (λ (h : k < n). inr (occurs b k (omega arith) j)) (λ h. inl (w .higher k n h)) (cases-lt k n)) in
       omega arith
 
   -- node i is the leaf of one way of the places if it is an action or a delay, else of none

@@ -27,11 +27,13 @@ agree-set ρ σ x d y len h = ⊎-elim same other (cases-eq y x)
   where
     other : (y ≡ x → ⊥) → Agrees (set ρ x d) (set σ x d) y
     other ne = getD-set-other ρ x y d 0 ne ∙ h (ne-eqb x y (λ e. ne (sym e))) ∙ sym (getD-set-other σ x y d 0 ne)
+
     same : y ≡ x → Agrees (set ρ x d) (set σ x d) y
     same e = rw e (⊎-elim inside outside (cases-lt x (length ρ)))
       where
         inside : x < length ρ → Agrees (set ρ x d) (set σ x d) x
         inside l = getD-set-same ρ x d 0 l ∙ sym (getD-set-same σ x d 0 (omega arith))
+
         outside : length ρ ≤ x → Agrees (set ρ x d) (set σ x d) x
         outside l = ap (λ (τ : List ℕ). getD τ x 0) (set-out ρ x d l) ∙ List·getD-eq-default ρ 0 l ∙ sym (List·getD-eq-default σ 0 (omega arith)) ∙ sym (ap (λ (τ : List ℕ). getD τ x 0) (set-out σ x d (omega arith)))
 
@@ -84,7 +86,7 @@ module _ (L : Meaning) (law : Lawful L) (m : Model) where
   value-same S p ρ σ e w h a = law .agrees e ρ σ (λ x k. a .1 x (w .1 x k) (h x k))
 
   values-same : (S : Scope) (p : ℕ → Bool) (ρ σ : List ℕ) (es : List ℕ) → All (Within L S) es → ((x : ℕ) → namedIn L es x ≡ true → p x ≡ true) → Alike L S p ρ σ
-    → All (λ e. L .value e ρ ≡ L .value e σ) es
+      → All (λ e. L .value e ρ ≡ L .value e σ) es
   values-same S p ρ σ [] w h a = tt
   values-same S p ρ σ (e ∷ es) w h a = (value-same S p ρ σ e (w .0) (λ x k. h x (or-left _ _ k)) a, values-same S p ρ σ es (w .1) (λ x k. h x (or-right _ _ k)) a)
 
@@ -114,12 +116,12 @@ module _ (L : Meaning) (law : Lawful L) (m : Model) where
   target-same S (delay n r t) ρ σ s c a = rest-same S (delay n r t) ρ σ s a
 
   acts-same : {S : Type 0} (a : ℕ) (es : List ℕ) (x w : ℕ) (to : List ℕ → S) (ρ σ : List ℕ)
-    → All (λ e. L .value e ρ ≡ L .value e σ) es → ((d : ℕ) → L .value w (set ρ x d) ≡ L .value w (set σ x d)) → ((d : ℕ) → to (set ρ x d) ≡ to (set σ x d))
-    → does L (m .sizes) (acts a es x w) to ρ ≡ does L (m .sizes) (acts a es x w) to σ
+      → All (λ e. L .value e ρ ≡ L .value e σ) es → ((d : ℕ) → L .value w (set ρ x d) ≡ L .value w (set σ x d)) → ((d : ℕ) → to (set ρ x d) ≡ to (set σ x d))
+      → does L (m .sizes) (acts a es x w) to ρ ≡ does L (m .sizes) (acts a es x w) to σ
   acts-same {S} a es x w to ρ σ h i j =
       ap₂ (λ (vs : List ℕ) (os : List (Outcome S)). cond (eqb (sumBy (λ o. o .weight) os) 0) [] (move a vs os ∷ []))
-        (map-same _ _ es h)
-        (ap (λ (f : ℕ → Outcome S). map f (valuesOf (m .sizes) x)) (fun-ext (λ d. λ k. record { weight = i d k; to = j d k })))
+      (map-same _ _ es h)
+      (ap (λ (f : ℕ → Outcome S). map f (valuesOf (m .sizes) x)) (fun-ext (λ d. λ k. record { weight = i d k; to = j d k })))
 
   pub transitions-same : (S : Scope) (t : Tree) (ρ σ : List ℕ) → Scoped L S t → Calls m t → Alike L S (named L t) ρ σ → transitions L m t ρ ≡ transitions L m t σ
   transitions-same S (call n p es) ρ σ s c a = refl
@@ -132,9 +134,9 @@ module _ (L : Meaning) (law : Lawful L) (m : Model) where
       ap (λ (f : ℕ → List (Transition Term)). joined f (valuesOf (m .sizes) x)) (fun-ext (λ d. transitions-same (adding x S) t (set ρ x d) (set σ x d) (s .1) c (alike-set L S _ ρ σ x d a)))
   transitions-same S (action n k es x w t) ρ σ s c a =
       acts-same k es x w (target L m (next t)) ρ σ
-        (values-same S _ ρ σ es (s .1) (λ y j. or-left _ _ j) a)
-        (λ d. value-same (adding x S) _ (set ρ x d) (set σ x d) w (s .2) (λ y j. or-right _ _ (or-left _ _ j)) (alike-set L S _ ρ σ x d a))
-        (λ d. target-same (adding x S) t (set ρ x d) (set σ x d) (s .3) c (less L (adding x S) _ _ (set ρ x d) (set σ x d) (λ y j. or-right (namedIn L es y) _ (or-right (L .names w y) _ j)) (alike-set L S _ ρ σ x d a)))
+      (values-same S _ ρ σ es (s .1) (λ y j. or-left _ _ j) a)
+      (λ d. value-same (adding x S) _ (set ρ x d) (set σ x d) w (s .2) (λ y j. or-right _ _ (or-left _ _ j)) (alike-set L S _ ρ σ x d a))
+      (λ d. target-same (adding x S) t (set ρ x d) (set σ x d) (s .3) c (less L (adding x S) _ _ (set ρ x d) (set σ x d) (λ y j. or-right (namedIn L es y) _ (or-right (L .names w y) _ j)) (alike-set L S _ ρ σ x d a)))
   transitions-same S (delay n r t) ρ σ s c a =
       let v = value-same S (named L (delay n r t)) ρ σ r (s .0) (λ x k. or-left _ _ k) a in
       let g = target-same S t ρ σ (s .1) c (less L S _ _ ρ σ (λ x k. or-right _ _ k) a) in

@@ -56,10 +56,13 @@ leafWays u i t = replicate (isLeaf t) (u .counter, record { leaf = i; sums = u .
 module _ (L : Meaning) (bs : List ℕ) (w : WellFormed bs) where
   abbrev g : Flat
   g = flat bs
+
   abbrev m : Model
   m = modelOf (flat bs)
+
   abbrev K : ℕ
   K = nodeCount bs (layoutOf bs)
+
   abbrev leads : ℕ → Leads
   leads c = leadsTo L (modelOf (flat bs)) (next (treeOf (flat bs) c))
 
@@ -95,14 +98,14 @@ module _ (L : Meaning) (bs : List ℕ) (w : WellFormed bs) where
         ∙ ap (λ k. joined (λ i. leafWays (up i) i (treeOf g i)) (counting 0 k)) (nodes-counted bs w)
 
     each : {D : Type 0} (pick : Does → List D) (at : ℕ → Option _ → List (Summand D)) → ((i : ℕ) (s : Shape) → summandsOf L m pick (leafWays (up i) i (planted g i s (treeOf g))) ≡ at i (valueIn g (Some s)))
-      → summandsOf L m pick (allWays m) ≡ joined (λ i. at i (nodeIn g i)) (counting 0 K)
+        → summandsOf L m pick (allWays m) ≡ joined (λ i. at i (nodeIn g i)) (counting 0 K)
     each {D} pick at h =
         ap (summandsOf L m pick) all-ways
         ∙ joined-joined (λ (z : ℕ × Way). map (summand L m z) (pick (z .1 .doing))) (λ i. leafWays (up i) i (treeOf g i)) (counting 0 K)
         ∙ joined-same _ _ (counting 0 K) (all-counting _ 0 K K (omega arith) (λ i low.
-            let z = w .sound .kinds i low in
-            let a = at-node bs w i (z .0) (z .1) in
-            ap (λ t. summandsOf L m pick (leafWays (up i) i t)) (a .tree) ∙ h i (z .0) ∙ ap (at i) (sym (a .there))))
+        let z = w .sound .kinds i low in
+        let a = at-node bs w i (z .0) (z .1) in
+        ap (λ t. summandsOf L m pick (leafWays (up i) i t)) (a .tree) ∙ h i (z .0) ∙ ap (at i) (sym (a .there))))
 
     pub actions-by-node : equationOf L m .actions ≡ joined (λ i. actionsAt (up i) leads (nodeIn g i)) (counting 0 K)
     actions-by-node = each actsIn (λ i. actionsAt (up i) leads) (λ i s. acts-at i (up i) s)

@@ -71,14 +71,14 @@ nth-mapped f (y ∷ ys) (suc k) z e = nth-mapped f ys k z e
 
 -- a move, and a delay, of the list in words comes from a transition
 moves-in : (ts : List (Transition Vector)) (k : ℕ) (v : Move) → nth (movesAs vectorWords ts) k ≡ Some v
-  → (a : ℕ) × (args : List ℕ) × (outs : List (Outcome Vector)) × In (move a args outs) ts × (_≡_ {A = Move} (record { action = a; arguments = args; outcomes = map (outcomeAs vectorWords) outs }) v)
+    → (a : ℕ) × (args : List ℕ) × (outs : List (Outcome Vector)) × In (move a args outs) ts × (_≡_ {A = Move} (record { action = a; arguments = args; outcomes = map (outcomeAs vectorWords) outs }) v)
 moves-in [] k v e = absurd (no-some v e)
 moves-in (wait r w ∷ ts) k v e = let z = moves-in ts k v e in (z .0, z .1, z .2, inr (z .3), z .4)
 moves-in (move a args outs ∷ ts) zero v e = (a, args, outs, inl refl, cc)
 moves-in (move a args outs ∷ ts) (suc k) v e = let z = moves-in ts k v e in (z .0, z .1, z .2, inr (z .3), z .4)
 
 delays-in : (ts : List (Transition Vector)) (k : ℕ) (d : Delay) → nth (delaysAs vectorWords ts) k ≡ Some d
-  → (r : ℕ) × (w : Vector) × In (wait r w) ts × (_≡_ {A = Delay} (record { rate = r; target = vectorWords w }) d)
+    → (r : ℕ) × (w : Vector) × In (wait r w) ts × (_≡_ {A = Delay} (record { rate = r; target = vectorWords w }) d)
 delays-in [] k d e = absurd (no-some d e)
 delays-in (move a args outs ∷ ts) k d e = let z = delays-in ts k d e in (z .0, z .1, inr (z .2), z .3)
 delays-in (wait r w ∷ ts) zero d e = (r, w, inl refl, cc)
@@ -104,14 +104,14 @@ module _ (L : Meaning) (m : Model) where
 
   -- a transition that is there has a number among the delays, or among the moves
   delay-at : (r : ℕ) (t : Term) (ts : List (Transition Vector)) → 0 < total (λ y. cond (sameTransition (wait r t) (transitionTo (stands L m) y)) 1 0) ts
-    → (k : ℕ) × (w : Vector) × (nth (delaysAs vectorWords ts) k ≡ Some (record { rate = r; target = vectorWords w })) × (stands L m w ≡ t)
+      → (k : ℕ) × (w : Vector) × (nth (delaysAs vectorWords ts) k ≡ Some (record { rate = r; target = vectorWords w })) × (stands L m w ≡ t)
   delay-at r t [] h = absurd (omega arith)
   delay-at r t (move a args outs ∷ ts) h = delay-at r t ts (omega arith)
   delay-at r t (wait q w ∷ ts) h = go (eqb r q && sameTerm t (stands L m w)) refl (λ l. delay-at r t ts l)
     where
       go : (c : Bool) → (eqb r q && sameTerm t (stands L m w)) ≡ c
-        → (0 < total (λ y. cond (sameTransition (wait r t) (transitionTo (stands L m) y)) 1 0) ts → (k : ℕ) × (w : Vector) × (nth (delaysAs vectorWords ts) k ≡ Some (record { rate = r; target = vectorWords w })) × (stands L m w ≡ t))
-        → (k : ℕ) × (u : Vector) × (nth (record { rate = q; target = vectorWords w } ∷ delaysAs vectorWords ts) k ≡ Some (record { rate = r; target = vectorWords u })) × (stands L m u ≡ t)
+          → (0 < total (λ y. cond (sameTransition (wait r t) (transitionTo (stands L m) y)) 1 0) ts → (k : ℕ) × (w : Vector) × (nth (delaysAs vectorWords ts) k ≡ Some (record { rate = r; target = vectorWords w })) × (stands L m w ≡ t))
+          → (k : ℕ) × (u : Vector) × (nth (record { rate = q; target = vectorWords w } ∷ delaysAs vectorWords ts) k ≡ Some (record { rate = r; target = vectorWords u })) × (stands L m u ≡ t)
       go true e f =
           let p = and-parts (eqb r q) (sameTerm t (stands L m w)) e in
           (0, w, ap {B = Option Delay} (λ c. Some (record { rate = c; target = vectorWords w })) (sym (eqb-true r q (p .0))), sym (term-true t (stands L m w) (p .1)))
@@ -120,19 +120,22 @@ module _ (L : Meaning) (m : Model) where
           let z = f (omega arith) in (suc (z .0), z .1, z .2, z .3)
 
   move-at : (a : ℕ) (args : List ℕ) (outs : List (Outcome Term)) (ts : List (Transition Vector)) → 0 < total (λ y. cond (sameTransition (move a args outs) (transitionTo (stands L m) y)) 1 0) ts
-    → (k : ℕ) × (puts : List (Outcome Vector)) × (nth (movesAs vectorWords ts) k ≡ Some (record { action = a; arguments = args; outcomes = map (outcomeAs vectorWords) puts })) × (outs ≡ map (outcomeTo (stands L m)) puts)
+      → (k : ℕ) × (puts : List (Outcome Vector)) × (nth (movesAs vectorWords ts) k ≡ Some (record { action = a; arguments = args; outcomes = map (outcomeAs vectorWords) puts })) × (outs ≡ map (outcomeTo (stands L m)) puts)
   move-at a args outs [] h = absurd (omega arith)
   move-at a args outs (wait r w ∷ ts) h = move-at a args outs ts (omega arith)
   move-at a args outs (move b brgs puts ∷ ts) h = go (eqb a b && (sameList eqb args brgs && sameList sameOutcome outs (map (outcomeTo (stands L m)) puts))) refl (λ l. move-at a args outs ts l)
     where
       go : (c : Bool) → (eqb a b && (sameList eqb args brgs && sameList sameOutcome outs (map (outcomeTo (stands L m)) puts))) ≡ c
-        → (0 < total (λ y. cond (sameTransition (move a args outs) (transitionTo (stands L m) y)) 1 0) ts → (k : ℕ) × (puts : List (Outcome Vector)) × (nth (movesAs vectorWords ts) k ≡ Some (record { action = a; arguments = args; outcomes = map (outcomeAs vectorWords) puts })) × (outs ≡ map (outcomeTo (stands L m)) puts))
-        → (k : ℕ) × (qs : List (Outcome Vector)) × (nth (record { action = b; arguments = brgs; outcomes = map (outcomeAs vectorWords) puts } ∷ movesAs vectorWords ts) k ≡ Some (record { action = a; arguments = args; outcomes = map (outcomeAs vectorWords) qs })) × (outs ≡ map (outcomeTo (stands L m)) qs)
+          → (0 < total (λ y. cond (sameTransition (move a args outs) (transitionTo (stands L m) y)) 1 0) ts → (k : ℕ) × (puts : List (Outcome Vector)) × (nth (movesAs vectorWords ts) k ≡ Some (record { action = a; arguments = args; outcomes = map (outcomeAs vectorWords) puts })) × (outs ≡ map (outcomeTo (stands L m)) puts))
+          → (k : ℕ) × (qs : List (Outcome Vector)) × (nth (record { action = b; arguments = brgs; outcomes = map (outcomeAs vectorWords) puts } ∷ movesAs vectorWords ts) k ≡ Some (record { action = a; arguments = args; outcomes = map (outcomeAs vectorWords) qs })) × (outs ≡ map (outcomeTo (stands L m)) qs)
       go true e f =
           let p = and-parts (eqb a b) (sameList eqb args brgs && sameList sameOutcome outs (map (outcomeTo (stands L m)) puts)) e in
-          let q = and-parts (sameList eqb args brgs) (sameList sameOutcome outs (map (outcomeTo (stands L m)) puts)) (p .1) in
-          (0, puts, ap₂ {C = Option Move} (λ c cs. Some (record { action = c; arguments = cs; outcomes = map (outcomeAs vectorWords) puts })) (sym (eqb-true a b (p .0))) (sym (list-true eqb eqb-true args brgs (q .0))),
-           list-true sameOutcome outcome-true outs (map (outcomeTo (stands L m)) puts) (q .1))
+          let q = and-parts (sameList eqb args brgs) (sameList sameOutcome outs (map (outcomeTo (stands L m)) puts)) (p .1) in (
+            0,
+            puts,
+            ap₂ {C = Option Move} (λ c cs. Some (record { action = c; arguments = cs; outcomes = map (outcomeAs vectorWords) puts })) (sym (eqb-true a b (p .0))) (sym (list-true eqb eqb-true args brgs (q .0))),
+            list-true sameOutcome outcome-true outs (map (outcomeTo (stands L m)) puts) (q .1),
+          )
       go false e f =
           let k : 0 < cond false 1 0 + total (λ y. cond (sameTransition (move a args outs) (transitionTo (stands L m) y)) 1 0) ts = rw e at h in
           let z = f (omega arith) in (suc (z .0), z .1, z .2, z .3)
@@ -142,15 +145,15 @@ module _ (L : Meaning) (m : Model) (law : Lawful L) (fits : Fitted L m) (s : Sou
   follows : {ts : List Step} {x : List ℕ} → reaching.Reached linear delays ts x → Reached L m (s .tree) ts (standsFor L m x)
   follows reaching.none =
       subst (λ y. Reached L m (s .tree) [] (standsFor L m y)) (sym (ans .starts))
-        (begin (subst (IsTerm L m (process m (m .begins) .body) (AtParams (process m (m .begins)) (λ i v. v ≡ getD (m .values) i 0))) (sym (start-stands L m law fits s)) (starts L m)))
+      (begin (subst (IsTerm L m (process m (m .begins) .body) (AtParams (process m (m .begins)) (λ i v. v ≡ getD (m .values) i 0))) (sym (start-stands L m law fits s)) (starts L m)))
   follows (reaching.acted {ts} {x} k n v o r km kn pos) =
       let mem = reached-member linear delays (ans .sound) (ans .waits) ts x r in
       let z = moves-in (transitionsIn L (equationOf L m) (vectorOf x)) k v (subst (λ ms. nth ms k ≡ Some v) (ans .moves x mem) km) in
       let y = nth-mapped (outcomeAs vectorWords) (z .2) n o (subst (λ (u : Move). nth (u .outcomes) n ≡ Some o) (sym (z .4)) kn) in
       let d = transfer L m law fits s (vectorOf x) (ans .member x mem .0) (move (z .0) (z .1) (z .2)) (z .3) in
       subst (λ (u : Move). Reached L m (s .tree) (Acted (label-of u) n ∷ ts) (standsFor L m (o .target))) (z .4)
-        (subst (λ (q : system.Outcome). Reached L m (s .tree) (Acted (label-of (record { action = z .0; arguments = z .1; outcomes = map (outcomeAs vectorWords) (z .2) })) n ∷ ts) (standsFor L m (q .target))) (y .2)
-          (moved (follows r) (d .1) (nth-map (outcomeTo (stands L m)) (z .2) n (y .0) (y .1)) (subst (λ (q : system.Outcome). 0 < q .weight) (sym (y .2)) pos)))
+      (subst (λ (q : system.Outcome). Reached L m (s .tree) (Acted (label-of (record { action = z .0; arguments = z .1; outcomes = map (outcomeAs vectorWords) (z .2) })) n ∷ ts) (standsFor L m (q .target))) (y .2)
+      (moved (follows r) (d .1) (nth-map (outcomeTo (stands L m)) (z .2) n (y .0) (y .1)) (subst (λ (q : system.Outcome). 0 < q .weight) (sym (y .2)) pos)))
   follows (reaching.waited {ts} {x} k d r kd) =
       let mem = reached-member linear delays (ans .sound) (ans .waits) ts x r in
       let z = delays-in (transitionsIn L (equationOf L m) (vectorOf x)) k d (subst (λ ds. nth ds k ≡ Some d) (ans .delays x mem) kd) in
@@ -158,10 +161,12 @@ module _ (L : Meaning) (m : Model) (law : Lawful L) (fits : Fitted L m) (s : Sou
       subst (λ (q : Delay). Reached L m (s .tree) (Waited (rate (q .rate)) ∷ ts) (standsFor L m (q .target))) (z .3) (delayed (follows r) (g .1))
 
   comes : {ts : List Step} {t : Term} → Reached L m (s .tree) ts t → (x : List ℕ) × reaching.Reached linear delays ts x × (standsFor L m x ≡ t)
-  comes (begin {s = u} i) =
-      (linear .start, reaching.none,
-       ap (standsFor L m) (ans .starts) ∙ start-stands L m law fits s
-       ∙ sym (is-term L m (process m (m .begins) .body) _ (startValue m) (λ x n k. at-params (process m (m .begins)) _ (λ i. getD (m .values) i 0) (λ i n e. e) x n k) u i))
+  comes (begin {s = u} i) = (
+    linear .start,
+    reaching.none,
+    ap (standsFor L m) (ans .starts) ∙ start-stands L m law fits s
+        ∙ sym (is-term L m (process m (m .begins) .body) _ (startValue m) (λ x n k. at-params (process m (m .begins)) _ (λ i. getD (m .values) i 0) (λ i n e. e) x n k) u i),
+  )
   comes (delayed {h} {t} {D} {r} c d) =
       let ih = comes c in
       let x = ih .0 in
@@ -173,15 +178,16 @@ module _ (L : Meaning) (m : Model) (law : Lawful L) (fits : Fitted L m) (s : Sou
       let x = ih .0 in
       let mem = reached-member linear delays (ans .sound) (ans .waits) h x (ih .1) in
       let z = move-at L m a args outs (transitionsIn L (equationOf L m) (vectorOf x)) (finds L m law fits s (move a args outs) D (vectorOf x) (ans .member x mem .0) (subst (λ y. Derivation L m (s .tree (y .place)) (y .values) D (move a args outs)) (sym (ih .2)) d)) in
-      let y = nth-mapped (outcomeTo (stands L m)) (z .1) n o (subst (λ os. nth os n ≡ Some o) (z .3) e) in
-      (vectorWords (y .0 .to),
-       reaching.acted (z .0) n (record { action = a; arguments = args; outcomes = map (outcomeAs vectorWords) (z .1) }) (outcomeAs vectorWords (y .0)) (ih .1)
-         (subst (λ ms. nth ms (z .0) ≡ Some (record { action = a; arguments = args; outcomes = map (outcomeAs vectorWords) (z .1) })) (sym (ans .moves x mem)) (z .2))
-         (nth-map (outcomeAs vectorWords) (z .1) n (y .0) (y .1)) (subst (λ (q : Outcome Term). 0 < q .weight) (sym (y .2)) pos),
-       ap (λ (q : Outcome Term). q .to) (y .2))
+      let y = nth-mapped (outcomeTo (stands L m)) (z .1) n o (subst (λ os. nth os n ≡ Some o) (z .3) e) in (
+        vectorWords (y .0 .to),
+        reaching.acted (z .0) n (record { action = a; arguments = args; outcomes = map (outcomeAs vectorWords) (z .1) }) (outcomeAs vectorWords (y .0)) (ih .1)
+            (subst (λ ms. nth ms (z .0) ≡ Some (record { action = a; arguments = args; outcomes = map (outcomeAs vectorWords) (z .1) })) (sym (ans .moves x mem)) (z .2))
+            (nth-map (outcomeAs vectorWords) (z .1) n (y .0) (y .1)) (subst (λ (q : Outcome Term). 0 < q .weight) (sym (y .2)) pos),
+        ap (λ (q : Outcome Term). q .to) (y .2),
+      )
 
   reaches : (ts : List Step) (t : Term) → Reached L m (s .tree) ts t → length ts ≤ 64
-    → (calls : List Call) × (trail (played linear delays calls .past) ≡ ts) × (standsFor L m (played linear delays calls .here) ≡ t)
+      → (calls : List Call) × (trail (played linear delays calls .past) ≡ ts) × (standsFor L m (played linear delays calls .here) ≡ t)
   reaches ts t r l =
       let z = comes r in
       let c = walk-rules linear delays (ans .sound) (ans .waits) .covers ts (z .0) (z .1) l in
@@ -190,7 +196,7 @@ module _ (L : Meaning) (m : Model) (law : Lawful L) (fits : Fitted L m) (s : Sou
   stands-in : (v : Vector) → InSet m v → InTerms L m (stands L m v)
   stands-in v i =
       term-in L m law fits s (place m (v .counter)) (λ x. getD (v .values) x 0)
-        (all-getD (Found L m) (places m) (v .counter - 1) (call 0 0 []) (omega (arith, i .0 .0, i .0 .1)) (found-again L m law fits s)) (i .1)
+      (all-getD (Found L m) (places m) (v .counter - 1) (call 0 0 []) (omega (arith, i .0 .0, i .0 .1)) (found-again L m law fits s)) (i .1)
 
   module _ (source : system.Meaning) (waits : List ℕ → List Delay) (src : SourceAnswers L m (s .tree) source waits) where
     all-moves : (x : List ℕ) → linear .member x ≡ true → (f : Move → ℕ) → sumBy f (map (moveTo (W L m)) (linear .moves x)) ≡ sumBy f (source .moves (termWords (standsFor L m x)))
@@ -221,13 +227,14 @@ module _ (L : Meaning) (m : Model) (law : Lawful L) (fits : Fitted L m) (s : Sou
 
     behaves : Behaves L m (s .tree) linear delays source waits (standsFor L m) termWords
     behaves = record {
-        walks = λ calls. follows (run-walks linear delays calls .reached);
-        reaches = reaches;
-        moves = λ x mem v. all-moves x mem _;
-        rates = λ x mem t. all-delays x mem _;
-        allMoves = all-moves;
-        allDelays = all-delays;
-        stays = λ x mem. src .member (standsFor L m x) (stands-in (vectorOf x) (ans .member x mem)) }
+      walks = λ calls. follows (run-walks linear delays calls .reached);
+      reaches = reaches;
+      moves = λ x mem v. all-moves x mem _;
+      rates = λ x mem t. all-delays x mem _;
+      allMoves = all-moves;
+      allDelays = all-delays;
+      stays = λ x mem. src .member (standsFor L m x) (stands-in (vectorOf x) (ans .member x mem));
+    }
 
 pub behaves-over-sides : BehavesOverSides
 behaves-over-sides L m law fits s linear delays source waits ans src = behaves L m law (fitted L m fits s) s linear delays ans source waits src

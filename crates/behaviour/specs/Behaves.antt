@@ -24,18 +24,18 @@ pub record Behaves (L : language.Meaning) (m : Model) (tree : ℕ → Tree)
   pub walks : (calls : List Call) → Reached L m tree (trail (played linear linearDelays calls .past)) (stands (played linear linearDelays calls .here))
   -- and what the model reaches by at most 64 steps, some calls reach, with those steps for a trail
   pub reaches : (ts : List Step) (t : Term) → Reached L m tree ts t → length ts ≤ 64
-    → (calls : List Call) × (trail (played linear linearDelays calls .past) ≡ ts) × (stands (played linear linearDelays calls .here) ≡ t)
+      → (calls : List Call) × (trail (played linear linearDelays calls .past) ≡ ts) × (stands (played linear linearDelays calls .here) ≡ t)
   -- a vector has as many moves with any action, arguments and list of weights with target terms as the term it stands for
   pub moves : (x : List ℕ) → linear .member x ≡ true → (v : Move)
-    → countBy (sameMove v) (map (moveTo (λ y. words (stands y))) (linear .moves x)) ≡ countBy (sameMove v) (source .moves (words (stands x)))
+      → countBy (sameMove v) (map (moveTo (λ y. words (stands y))) (linear .moves x)) ≡ countBy (sameMove v) (source .moves (words (stands x)))
   -- and the rates of its delays into any term have the same sum
   pub rates : (x : List ℕ) → linear .member x ≡ true → (t : List ℕ)
-    → sumBy (rateInto t) (map (delayTo (λ y. words (stands y))) (linearDelays x)) ≡ sumBy (rateInto t) (sourceDelays (words (stands x)))
+      → sumBy (rateInto t) (map (delayTo (λ y. words (stands y))) (linearDelays x)) ≡ sumBy (rateInto t) (sourceDelays (words (stands x)))
   -- whatever is summed over its moves, and over its delays
   pub allMoves : (x : List ℕ) → linear .member x ≡ true → (f : Move → ℕ)
-    → sumBy f (map (moveTo (λ y. words (stands y))) (linear .moves x)) ≡ sumBy f (source .moves (words (stands x)))
+      → sumBy f (map (moveTo (λ y. words (stands y))) (linear .moves x)) ≡ sumBy f (source .moves (words (stands x)))
   pub allDelays : (x : List ℕ) → linear .member x ≡ true → (g : Delay → ℕ)
-    → sumBy g (map (delayTo (λ y. words (stands y))) (linearDelays x)) ≡ sumBy g (sourceDelays (words (stands x)))
+      → sumBy g (map (delayTo (λ y. words (stands y))) (linearDelays x)) ≡ sumBy g (sourceDelays (words (stands x)))
   -- the term is a state of the source
   pub stays : (x : List ℕ) → linear .member x ≡ true → source .member (words (stands x)) ≡ true
 

@@ -26,4 +26,4 @@ pub data Reached (L : Meaning) (m : Model) (tree : ℕ → Tree) : List Step →
   begin : {s : Term} → IsTerm L m (process m (m .begins) .body) (AtParams (process m (m .begins)) (λ i v. v ≡ getD (m .values) i 0)) s → Reached L m tree [] s
   delayed : {h : List Step} {s t : Term} {D : List Rule} {r : ℕ} → Reached L m tree h s → Derivation L m (tree (s .place)) (s .values) D (wait r t) → Reached L m tree (Waited (rate r) ∷ h) t
   moved : {h : List Step} {s : Term} {o : Outcome Term} {D : List Rule} {a : ℕ} {args : List ℕ} {outs : List (Outcome Term)} {n : ℕ} → Reached L m tree h s
-    → Derivation L m (tree (s .place)) (s .values) D (move a args outs) → nth outs n ≡ Some o → 0 < o .weight → Reached L m tree (Acted (labelled a args) n ∷ h) (o .to)
+      → Derivation L m (tree (s .place)) (s .values) D (move a args outs) → nth outs n ≡ Some o → 0 < o .weight → Reached L m tree (Acted (labelled a args) n ∷ h) (o .to)

@@ -82,8 +82,10 @@ passed-capped o u U f F k e h = go o
   where
     keep : capped (f k) ≡ capped (F k)
     keep = ap capped h ∙ capped-twice (F k)
+
     same : capped u ≡ capped U
     same = ap capped e ∙ capped-twice U
+
     go : (o : Option NodeValue) → capped (passed o u f k) ≡ capped (passed o U F k)
     go None = keep
     go (Some (call p bs)) = keep
@@ -95,8 +97,8 @@ passed-capped o u U f F k e h = go o
 
 -- one turn of the loop over the nodes
 pub fill-on : (nodes : ℕ → Option NodeValue) (start : ℕ → Guarded) (n : ℕ) (i : Inner) (o : Option NodeValue) (here : Guarded) (f g : ℕ → Guarded) (len : ℕ) → n < len → here ≡ f n → i ≡ innerOf o → o ≡ nodes n
-  → ((k : ℕ) → k < len → f k ≡ capped (aboveAt nodes start n k)) → ((k : ℕ) → k < len → g k ≡ capped (passedOn i here f k))
-  → (k : ℕ) → k < len → g k ≡ capped (aboveAt nodes start (n + 1) k)
+    → ((k : ℕ) → k < len → f k ≡ capped (aboveAt nodes start n k)) → ((k : ℕ) → k < len → g k ≡ capped (passedOn i here f k))
+    → (k : ℕ) → k < len → g k ≡ capped (aboveAt nodes start (n + 1) k)
 fill-on nodes start n i o here f g len low e ei eo h p k l =
     p k l ∙ ap (λ j. capped (passedOn j here f k)) ei ∙ ap capped (inner-passed o) ∙ ap (λ y. capped (passed y here f k)) eo
     ∙ passed-capped (nodes n) here (aboveAt nodes start n n) f (aboveAt nodes start n) k (e ∙ h n low) (h k l)
@@ -122,6 +124,7 @@ at-set gs c x k l = ⊎-elim same other (cases-eq k c)
     same e =
         ap (λ i. guardAt (set gs i x) k) (sym e) ∙ ap guardOf (getD-set-same gs k x noGuard l)
         ∙ sym (ap (λ b. cond b (guardOf x) (guardAt gs k)) (eq-eqb k c e))
+
     other : (k ≡ c → ⊥) → guardAt (set gs c x) k ≡ cond (eqb k c) (guardOf x) (guardAt gs k)
     other n = ap guardOf (getD-set-other gs c k x noGuard n) ∙ sym (ap (λ b. cond b (guardOf x) (guardAt gs k)) (ne-eqb k c n))
 
@@ -136,7 +139,7 @@ pub put-one : (gs : List Guard) (c : ℕ) (x : Guard) (X : Guarded) → guardOf 
 put-one gs c x X e k l = at-set gs c x k l ∙ pick (eqb k c) (guardOf x) X (guardAt gs k) e (keeps gs k)
 
 pub put-two : (gs : List Guard) (a b : ℕ) (x : Guard) (k : ℕ) → k < length gs
-  → guardAt (set (set gs a x) b x) k ≡ capped (cond (eqb k b) (guardOf x) (cond (eqb k a) (guardOf x) (guardAt gs k)))
+    → guardAt (set (set gs a x) b x) k ≡ capped (cond (eqb k b) (guardOf x) (cond (eqb k a) (guardOf x) (guardAt gs k)))
 put-two gs a b x k l =
     at-set (set gs a x) b x k (let q = length-set gs a x in omega arith)
     ∙ ap (λ y. cond (eqb k b) (guardOf x) y) (at-set gs a x k l)

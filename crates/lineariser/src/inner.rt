@@ -13,8 +13,21 @@ pub(crate) fn inner(node: Option<Node<'_>>) -> Inner
         Some(Node::Condition { expression, child }) => Inner::Condition(expression, child),
         Some(Node::Choice { left, right }) => Inner::Choice(left, right),
         Some(Node::Sum { variable, child }) => Inner::Sum(variable, child),
-        Some(Node::Call { process: _, arguments: _ }) => Inner::End,
-        Some(Node::Action { action: _, arguments: _, variable: _, weight: _, child: _ }) => Inner::End,
+        Some(
+            Node::Call {
+                process: _,
+                arguments: _,
+            },
+        ) => Inner::End,
+        Some(
+            Node::Action {
+                action: _,
+                arguments: _,
+                variable: _,
+                weight: _,
+                child: _,
+            },
+        ) => Inner::End,
         Some(Node::Delay { rate: _, child: _ }) => Inner::End,
         None => Inner::End,
     }

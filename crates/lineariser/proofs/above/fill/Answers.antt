@@ -25,7 +25,8 @@ loop-n-again c =
     let gs = c .loop-n .above in
     let n = c .loop-n .n in
     let low : n < 256 = omega (arith, c .loop-n-test .taken, c .node-count-n-end .ensures .answer, node-number bs (c .args .model .now .lawful), few-nodes bs (c .args .model .now .lawful)) in
-    let read = getD-read gs n (c .index-above-n .result) (omega (arith, c .loop-n .inv .0)) (c .index-above-n .is) noGuard in
-    (c .pass .ensures .same ∙ c .loop-n .inv .0,
-     fill-on (nodeIn (flat bs)) (guardAt (c .args .above .now)) n (c .inner-node .result) _ (guardOf (c .index-above-n .result)) (guardAt gs) (guardAt (c .pass .last .above)) 256 low (ap guardOf read)
-       (c .inner-node .ensures .answer) (c .node .ensures .answer) (c .loop-n .inv .1) (λ k l. c .pass .ensures .leaves k (omega (arith, c .loop-n .inv .0))))
+    let read = getD-read gs n (c .index-above-n .result) (omega (arith, c .loop-n .inv .0)) (c .index-above-n .is) noGuard in (
+      c .pass .ensures .same ∙ c .loop-n .inv .0,
+      fill-on (nodeIn (flat bs)) (guardAt (c .args .above .now)) n (c .inner-node .result) _ (guardOf (c .index-above-n .result)) (guardAt gs) (guardAt (c .pass .last .above)) 256 low (ap guardOf read)
+          (c .inner-node .ensures .answer) (c .node .ensures .answer) (c .loop-n .inv .1) (λ k l. c .pass .ensures .leaves k (omega (arith, c .loop-n .inv .0))),
+    )

@@ -14,8 +14,9 @@ returns-in-Condition c =
     let did = c .put .ensures .leaves in
     record {
       leaves = λ k l. ap (λ xs. guardAt xs k) did ∙ put-one gs _ _ (andCondition (c .in-Condition .expression) here) (c .with-condition-guard .ensures .answer) k l
-        ∙ sym (ap (λ o. capped (passedOn o here (guardAt gs) k)) (c .in-Condition .is));
-      same = ap length did ∙ length-set gs _ _ }
+          ∙ sym (ap (λ o. capped (passedOn o here (guardAt gs) k)) (c .in-Condition .is));
+      same = ap length did ∙ length-set gs _ _;
+    }
 
 pub returns-in-Choice : need.returns-in-Choice
 returns-in-Choice c =
@@ -25,8 +26,9 @@ returns-in-Choice c =
     let two = c .put-in-Choice-2 .ensures .leaves in
     record {
       leaves = λ k l. ap (λ xs. guardAt xs k) two ∙ ap (λ xs. guardAt (set xs (c .in-Choice .right) (c .args .here)) k) one ∙ put-two gs _ _ (c .args .here) k l
-        ∙ sym (ap (λ o. capped (passedOn o here (guardAt gs) k)) (c .in-Choice .is));
-      same = ap length two ∙ length-set _ _ _ ∙ ap length one ∙ length-set gs _ _ }
+          ∙ sym (ap (λ o. capped (passedOn o here (guardAt gs) k)) (c .in-Choice .is));
+      same = ap length two ∙ length-set _ _ _ ∙ ap length one ∙ length-set gs _ _;
+    }
 
 pub returns-in-Sum : need.returns-in-Sum
 returns-in-Sum c =
@@ -35,8 +37,9 @@ returns-in-Sum c =
     let did = c .put-in-Sum .ensures .leaves in
     record {
       leaves = λ k l. ap (λ xs. guardAt xs k) did ∙ put-one gs _ _ (andSum (c .in-Sum .variable) here) (c .with-sum-guard .ensures .answer) k l
-        ∙ sym (ap (λ o. capped (passedOn o here (guardAt gs) k)) (c .in-Sum .is));
-      same = ap length did ∙ length-set gs _ _ }
+          ∙ sym (ap (λ o. capped (passedOn o here (guardAt gs) k)) (c .in-Sum .is));
+      same = ap length did ∙ length-set gs _ _;
+    }
 
 pub returns-in-End : need.returns-in-End
 returns-in-End c =
@@ -44,4 +47,5 @@ returns-in-End c =
     let here = guardOf (c .args .here) in
     record {
       leaves = λ k l. put-none gs k ∙ sym (ap (λ o. capped (passedOn o here (guardAt gs) k)) (c .in-End .is));
-      same = refl }
+      same = refl;
+    }
