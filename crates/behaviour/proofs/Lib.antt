@@ -1,0 +1,16 @@
+pub mod Once
+pub mod Scopes
+pub mod Expands
+pub mod Lands
+pub mod Kept
+pub mod Closes
+pub mod Alike
+pub mod Follow
+pub mod Words
+pub mod Keeping
+pub mod Placed
+pub mod ByNode
+pub mod Grown
+pub mod Accepted
+pub mod Nodewise
+pub mod Summands

@@ -1,0 +1,11 @@
+pub mod Vectors
+pub mod Ways
+pub mod Linearised
+pub mod Sets
+pub mod Reached
+pub mod Lists
+pub mod Behaves
+pub mod Claims
+pub mod Sides
+pub mod Accepted
+pub mod Passing
