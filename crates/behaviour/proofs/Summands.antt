@@ -17,7 +17,7 @@ use Rattle.model_file.specs.Layouts.{layoutOf}
 use Rattle.model_rules.specs.declared.shape.Shape.{Shape}
 use Rattle.model_rules.specs.declared.shape.Shape.the-variants as shape
 use Rattle.model_rules.specs.Sound as rules
-use Rattle.model.specs.File.{bytesOf}
+use Rattle.words.specs.Words.{bytesOf}
 use Rattle.model.specs.Flat.{Flat, flat}
 use Rattle.model.specs.Nodes.{nodeIn, valueIn, argumentsFrom, callArity, actionArity}
 use Rattle.model.specs.Trees.{Tree, planted, treeOf}

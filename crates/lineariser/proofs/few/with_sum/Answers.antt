@@ -1,6 +1,0 @@
-use mathlib.Core.Path.{sym}
-use Rattle.lineariser.proofs.Caps.{guards, list-within}
-use Rattle.lineariser.proofs.few.with_sum.Needs as need
-
-pub returns : need.returns
-returns c = record { answer = guards (c .args .guard .counter) _ _ _ _ (c .with .ensures .answer) (sym (list-within (c .args .guard .conditions))) }
