@@ -4,7 +4,7 @@ use std::alloc::AllocError;
 use std::alloc::Global;
 
 // The file of some words: version 1, the length of the rest, the words.
-pub fn file(heap: Global, words: &[u16]) -> Result<Vec<u8>, AllocError> {
+pub(crate) fn file(heap: Global, words: &[u16]) -> Result<Vec<u8>, AllocError> {
     let mut bytes = Vec::new(heap);
     bytes.push(1)?;
     let length = (words.len().wrapping_mul(2) & 0xffff_ffff) as u32;
@@ -16,7 +16,7 @@ pub fn file(heap: Global, words: &[u16]) -> Result<Vec<u8>, AllocError> {
 }
 
 // The number and record of the refusal of a file, or 0 and 0 where it is taken.
-pub fn verdict<L: FileLanguage + Drop>(bytes: &[u8]) -> (u16, u16) {
+pub(crate) fn verdict<L: FileLanguage + Drop>(bytes: &[u8]) -> (u16, u16) {
     let mut language = L::empty();
     match language.fill(bytes) {
         Ok(()) => (0, 0),
@@ -25,7 +25,7 @@ pub fn verdict<L: FileLanguage + Drop>(bytes: &[u8]) -> (u16, u16) {
 }
 
 // The same of the file of some words.
-pub fn words_verdict<L: FileLanguage + Drop>(
+pub(crate) fn words_verdict<L: FileLanguage + Drop>(
     heap: Global,
     words: &[u16],
 ) -> Result<(u16, u16), AllocError> {

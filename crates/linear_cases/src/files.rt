@@ -6,7 +6,7 @@ use std::alloc::AllocError;
 use std::alloc::Global;
 
 // The file of some words: version 1, the length of the rest, the words.
-pub fn file(heap: Global, words: &[u16]) -> Result<Vec<u8>, AllocError> {
+pub(crate) fn file(heap: Global, words: &[u16]) -> Result<Vec<u8>, AllocError> {
     let mut bytes = Vec::new(heap);
     bytes.push(1)?;
     let length = (words.len().wrapping_mul(2) & 0xffff_ffff) as u32;
@@ -18,7 +18,7 @@ pub fn file(heap: Global, words: &[u16]) -> Result<Vec<u8>, AllocError> {
 }
 
 // The number, group and summand of the refusal of a file, or all 0 where it is taken.
-pub fn verdict(bytes: &[u8]) -> (u16, u16, u16) {
+pub(crate) fn verdict(bytes: &[u8]) -> (u16, u16, u16) {
     let mut equation = Equation::smallest();
     match read(bytes, &mut equation) {
         Ok(()) => (0, 0, 0),
@@ -27,13 +27,13 @@ pub fn verdict(bytes: &[u8]) -> (u16, u16, u16) {
 }
 
 // The same of the file of some words.
-pub fn words_verdict(heap: Global, words: &[u16]) -> Result<(u16, u16, u16), AllocError> {
+pub(crate) fn words_verdict(heap: Global, words: &[u16]) -> Result<(u16, u16, u16), AllocError> {
     let bytes = file(heap, words)?;
     Ok(verdict(bytes.as_slice()))
 }
 
 // Whether a file is taken, and written back byte for byte.
-pub fn comes_back(bytes: &[u8]) -> bool {
+pub(crate) fn comes_back(bytes: &[u8]) -> bool {
     let mut equation = Equation::smallest();
     if read(bytes, &mut equation).is_err() {
         return false;
@@ -49,7 +49,7 @@ pub fn comes_back(bytes: &[u8]) -> bool {
 }
 
 // The same of the file of some words.
-pub fn words_come_back(heap: Global, words: &[u16]) -> Result<bool, AllocError> {
+pub(crate) fn words_come_back(heap: Global, words: &[u16]) -> Result<bool, AllocError> {
     let bytes = file(heap, words)?;
     Ok(comes_back(bytes.as_slice()))
 }

@@ -29,7 +29,3 @@ writeAnswer file bs = cond (ltb (length bs) (length file)) (Err Short) (Ok (leng
 
 abbrev pub writeLeaves : List ℕ → List ℕ → List ℕ
 writeLeaves file bs = cond (ltb (length bs) (length file)) bs (over file bs)
-
--- one summand more, where there is room for its words
-abbrev pub addAnswer : List ℕ → ℕ → List ℕ → Result (Unit {0}) WriteFault
-addAnswer bs end ws = cond (ltb (length bs) end) (Err Short) (Ok tt)

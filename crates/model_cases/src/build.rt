@@ -21,7 +21,7 @@ fn sections(
 }
 
 // One variable, the length of a queue of at most two; while it is below 2, a delay and then one more.
-pub fn queue(heap: Global) -> Result<Vec<u16>, AllocError> {
+pub(crate) fn queue(heap: Global) -> Result<Vec<u16>, AllocError> {
     let nodes = [[2, 2, 1, 0, 0, 0], [6, 5, 2, 0, 0, 0], [1, 0, 0, 0, 0, 0]];
     sections(heap, &[1, 3, 1, 0, 1, 0, 0, 0, 1, 0, 3], &nodes, &[1, 4])
 }
@@ -40,13 +40,13 @@ const ALL_KINDS: [[u16; 6]; 10] = [
 ];
 
 // Three variables, bound by a parameter, a sum and an action; two processes, and nodes of every kind.
-pub fn all_kinds(heap: Global) -> Result<Vec<u16>, AllocError> {
+pub(crate) fn all_kinds(heap: Global) -> Result<Vec<u16>, AllocError> {
     let head = [3, 3, 4, 5, 2, 0, 1, 0, 0, 0, 8, 0, 2, 2, 0, 3, 10];
     sections(heap, &head, &ALL_KINDS, &[3, 0, 0, 0])
 }
 
 // What becomes of a file with one process and these nodes, of which the first is its body; it has one variable of size 2.
-pub fn of_nodes(
+pub(crate) fn of_nodes(
     heap: Global,
     count: u16,
     nodes: &[[u16; 6]],
@@ -56,7 +56,7 @@ pub fn of_nodes(
 }
 
 // Number, section and record of the fault; all 0 where the file is accepted.
-pub fn verdict(bytes: &[u8]) -> (u16, u16, u16) {
+pub(crate) fn verdict(bytes: &[u8]) -> (u16, u16, u16) {
     let mut model = Model::smallest();
     match accept(open(bytes), &mut model) {
         Ok(()) => (0, 0, 0),
@@ -68,7 +68,7 @@ pub fn verdict(bytes: &[u8]) -> (u16, u16, u16) {
 }
 
 // The file of these words, of which there are less than 32,768.
-pub fn file(heap: Global, words: &[u16]) -> Result<Vec<u8>, AllocError> {
+pub(crate) fn file(heap: Global, words: &[u16]) -> Result<Vec<u8>, AllocError> {
     let length = words.len() % 32768 * 2;
     let mut bytes = [1, 0, 0, (length / 256) as u8, (length % 256) as u8].to_vec(heap)?;
     for word in words {
@@ -77,13 +77,13 @@ pub fn file(heap: Global, words: &[u16]) -> Result<Vec<u8>, AllocError> {
     Ok(bytes)
 }
 
-pub fn of_words(heap: Global, words: &[u16]) -> Result<(u16, u16, u16), AllocError> {
+pub(crate) fn of_words(heap: Global, words: &[u16]) -> Result<(u16, u16, u16), AllocError> {
     let bytes = file(heap, words)?;
     Ok(verdict(&bytes))
 }
 
 // So many times the word at the end.
-pub fn repeat(words: &mut Vec<u16>, word: u16, times: u16) -> Result<(), AllocError> {
+pub(crate) fn repeat(words: &mut Vec<u16>, word: u16, times: u16) -> Result<(), AllocError> {
     for _ in 0..times {
         words.push(word)?;
     }
