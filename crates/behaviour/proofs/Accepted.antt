@@ -1,13 +1,12 @@
 -- An accepted model file gives a sound model, each node of which is placed once. Assumes nothing.
-use Rattle.std.proofs.Common.{◌≡◌, ℕ, zero, suc, ◌+◌, ◌-◌, ◌<◌, ◌≤◌, Bool, true, false, cond, ◌&&◌, eqb, ltb, leb, ◌⊎◌, List, [], ◌∷◌, map, length, get_or, take, drop, Some, None, Option, sym, refl, ap, ◌∙◌, subst, ap₂, inl, inr, ⊎_elim, arith}
+use Rattle.std.proofs.Common.{◌≡◌, ℕ, zero, suc, ◌+◌, ◌-◌, ◌<◌, ◌≤◌, true, eqb, ltb, leb, ◌⊎◌, List, [], ◌∷◌, map, length, get_or, drop, Some, sym, refl, ap, ◌∙◌, subst, ap₂, inl, inr, ⊎_elim, arith}
 use lib.ListN.{get_or-eq_default}
 use Rattle.std.specs.List.{range_with_len, AllByRecursion as All}
-use Rattle.std.proofs.lemmas.List.FromFn.{length-map-range_with_len, get_or-map-range_with_len}
-use Rattle.std.proofs.ByRecursion.{All-weaker, All-map}
+use Rattle.std.proofs.ByRecursion.{All-map}
 use Rattle.std.proofs.lemmas.List.{length-take-le, length-drop}
 use Rattle.std.proofs.lemmas.Bool.{cases_lt, eqb-true, ne_eqb, and_parts, leb-true, ltb-true}
 use Rattle.model_file.specs.declared.layout.Layout.{Layout}
-use Rattle.model_file.specs.Fields.{variable_count, size_of, process_count, first_of, number_of, body_of, start_of, value_of, action_count, arity_of, node_count, argument_count, argument_of}
+use Rattle.model_file.specs.Fields.{variable_count, size_of, process_count, first_of, number_of, body_of, start_of, value_of, node_count, argument_count, argument_of}
 use Rattle.model_file.specs.Layouts.{layout_of}
 use Rattle.model_file.specs.Limits.{Run}
 use Rattle.model_rules.specs.declared.shape.Shape.{Shape}
@@ -20,13 +19,13 @@ use Rattle.model_rules.specs.Tallies.{one, occurs, children}
 use Rattle.model_rules.proofs.Decoded.{shape_is}
 use Rattle.model_rules.proofs.Placed.{once_made}
 use Rattle.model.specs.declared.node.Process as header
-use Rattle.model.specs.Flat.{Flat, flat, numbered, process_of, node_of, or_delay}
+use Rattle.model.specs.Flat.{Flat, flat, process_of, node_of, or_delay}
 use Rattle.model.specs.Nodes as nodes
 use Rattle.model.specs.Nodes.{call_arity, action_arity, arguments_from, node_in, value_in}
 use Rattle.model.specs.Trees.{Tree, call, planted, grown, tree_of}
 use Rattle.model.specs.WellFormed.{WellFormed}
 use Rattle.model.proofs.Numbered.{numbered_length, numbered_at, numbered_nth}
-use Rattle.source.specs.Models.{Process, Model, node, process, no_process, param, headed, model_of}
+use Rattle.source.specs.Models.{Process, node, process, no_process, param, headed, model_of}
 use Rattle.source.specs.Sound.{Sound}
 use Rattle.source.proofs.Totals.{total, total_map, total_all}
 use Rattle.source.proofs.Enumerate.{all_counting}

@@ -1,6 +1,5 @@
 -- The two sides answer by the transitions of vectors and of terms.
-use Rattle.std.proofs.Common.{◌≡◌, ℕ, zero, suc, ◌+◌, ◌-◌, ◌<◌, ◌≤◌, Bool, true, false, cond, ◌&&◌, ◌||◌, eqb, ltb, leb, List, [], ◌∷◌, length, get_or, sym, refl, ap, ◌∙◌, subst, ⊎_elim, arith}
-use Rattle.std.specs.List.{AllByRecursion as All}
+use Rattle.std.proofs.Common.{◌≡◌, ℕ, zero, suc, ◌+◌, ◌-◌, ◌<◌, Bool, true, false, ◌&&◌, ◌||◌, eqb, ltb, leb, List, [], ◌∷◌, length, get_or, sym, refl, ap, ◌∙◌, subst, ⊎_elim, arith}
 use Rattle.std.proofs.ByRecursion.{All-get_or}
 use Rattle.std.proofs.lemmas.Bool.{and_parts, and_from, ltb-true, leb-true, lt-ltb, eq-eqb, or_left, or_right, cases_Bool, both_ways}
 use Rattle.language.specs.Meanings.{Meaning, Lawful}
@@ -12,21 +11,21 @@ use Rattle.model_rules.specs.Sound.{Resting}
 use Rattle.model_rules.specs.Tallies.{resting}
 use Rattle.model_rules.proofs.Moves.{resting_made}
 use Rattle.model.specs.Flat.{flat}
-use Rattle.model.specs.Trees.{Tree, call, tree_of}
+use Rattle.model.specs.Trees.{call, tree_of}
 use Rattle.model.specs.WellFormed.{WellFormed}
 use Rattle.sides.specs.Lists.{moves_as, delays_as}
 use Rattle.source.specs.Free.{free}
 use Rattle.source.specs.Models.{Model, model_of, Term, node}
 use Rattle.source.specs.Places.{places, place, counter}
-use Rattle.source.specs.Sound.{Fits, Sound, Numbered, Calls}
+use Rattle.source.specs.Sound.{Fits, Numbered, Calls}
 use Rattle.source.specs.Terms.{transitions}
 use Rattle.system.specs.Systems as system
-use Rattle.term_side.specs.Meanings.{term_words, term_of, free_in, is_term, fitted_from, kept_transitions, term_meaning, term_delays}
+use Rattle.term_side.specs.Meanings.{term_words, free_in, is_term, fitted_from, kept_transitions, term_meaning, term_delays}
 use Rattle.term_side.proofs.Freed.{freed}
-use Rattle.behaviour.specs.Linearised.{equation_of, start_vector}
+use Rattle.behaviour.specs.Linearised.{equation_of}
 use Rattle.behaviour.specs.Sets.{InSet, InTerms}
 use Rattle.behaviour.specs.Sides.{LinearAnswers, SourceAnswers}
-use Rattle.behaviour.specs.Theorem.{BehavesAs, EquationBehaves}
+use Rattle.behaviour.specs.Theorem.{EquationBehaves}
 use Rattle.behaviour.proofs.Accepted.{accepted_sound, nodes_counted}
 use Rattle.behaviour.proofs.Grown.{sound}
 use Rattle.behaviour.proofs.Kept.{good, Good, here}

@@ -1,20 +1,20 @@
 -- The summands node by node: each from what stands above its node. Assumes nothing.
-use Rattle.std.proofs.Common.{◌≡◌, ℕ, zero, suc, ◌+◌, ◌-◌, ◌<◌, ◌≤◌, Bool, true, false, cond, not, eqb, ◌⊎◌, List, [], ◌∷◌, ◌++◌, map, length, replicate, filter, sym, refl, ap, ◌∙◌, subst, ap₂, subst₂, inl, inr, ⊎_elim, arith, length-append}
+use Rattle.std.proofs.Common.{◌≡◌, ℕ, suc, ◌+◌, ◌<◌, ◌≤◌, Bool, true, false, cond, not, eqb, List, [], ◌∷◌, ◌++◌, map, length, replicate, filter, sym, refl, ap, ◌∙◌, subst, ap₂, subst₂, ⊎_elim, arith, length-append}
 use mathlib.Core.Path.{fun_ext}
 use lib.Seq.{append_snoc}
 use Rattle.std.specs.List.{range_with_len, flat_map, prefix_len, AllByRecursion as All}
-use Rattle.std.proofs.lemmas.List.{append_assoc, append-nil}
+use Rattle.std.proofs.lemmas.List.{append-nil}
 use Rattle.std.proofs.ByRecursion.{All-weaker, All-append, All-map}
-use Rattle.std.proofs.lemmas.Bool.{eq-eqb, ne_eqb, eqb-true, eqb-false, cases_lt}
+use Rattle.std.proofs.lemmas.Bool.{eq-eqb, ne_eqb, eqb-true, cases_lt}
 use Rattle.model.specs.Trees.{Tree, call, when, choice, sum, action, delay}
-use Rattle.source.specs.Models.{node, Process, Model, Next, calls, rests, next}
+use Rattle.source.specs.Models.{node, Model, Next, calls, rests, next}
 use Rattle.valuation.specs.Doings.{Does, acts, waits}
 use Rattle.linear.specs.Equations.{Guarded}
 use Rattle.behaviour.specs.Passing.{place_itself, and_sum, and_condition}
 use Rattle.behaviour.specs.Ways.{Way, ways, add_sum, add_condition, numbered, all_ways}
-use Rattle.source.specs.Places.{below, rest, unsorted, places, counter, in_order}
-use Rattle.source.specs.Sound.{Here, Numbered, Sound}
-use Rattle.source.proofs.Totals.{total, total_append, total_joined, total_map, total_all, total_in_order}
+use Rattle.source.specs.Places.{below, rest, unsorted, places, counter}
+use Rattle.source.specs.Sound.{Numbered, Sound}
+use Rattle.source.proofs.Totals.{total, total_append, total_joined, total_map, total_in_order}
 use Rattle.behaviour.proofs.Placed.{is, nodes_of, is_leaf, leafs, PlacedOnce, all_nodes, all_below, occurs, once_each}
 use Rattle.behaviour.proofs.Kept.{all_joined, all_in_order, all_any}
 use Rattle.source.proofs.Enumerate.{all_counting}

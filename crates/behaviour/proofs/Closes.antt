@@ -1,26 +1,26 @@
 -- Targets of vectors are vectors. Assumes nothing.
-use Rattle.std.proofs.Common.{◌≡◌, ℕ, zero, suc, ◌+◌, ◌-◌, ◌<◌, ◌≤◌, min, Bool, true, false, cond, not, eqb, ◌⊎◌, List, [], ◌∷◌, map, length, get_or, set, sum_by, filter, sym, refl, ap, ◌∙◌, subst, ap₂, inl, inr, ⊎_elim, arith, get_or-set_other, get_or-set_same}
+use Rattle.std.proofs.Common.{◌≡◌, ℕ, suc, ◌-◌, ◌<◌, ◌≤◌, min, Bool, true, false, cond, eqb, List, [], ◌∷◌, map, length, get_or, set, sum_by, sym, refl, ap, ◌∙◌, subst, ⊎_elim, arith, get_or-set_other, get_or-set_same}
 use lib.Seq.{set_out}
 use Rattle.std.specs.List.{flat_map, AllByRecursion as All}
-use Rattle.std.proofs.ByRecursion.{All-weaker, All-map, All-append, all_kept_by, All-get_or}
+use Rattle.std.proofs.ByRecursion.{All-weaker, All-map, All-append, All-get_or}
 use Rattle.std.proofs.lemmas.Bool.{cases_eq, cases_lt}
 use Rattle.language.specs.Meanings.{Meaning, Lawful}
 use Rattle.model.specs.Trees.{Tree, call, when, choice, sum, action, delay}
 use Rattle.source.specs.Models.{Model, Next, calls, rests, process, param, node, next, Term}
 use Rattle.valuation.specs.Doings.{Does, acts, waits, outcomes, does}
-use Rattle.valuation.specs.Transitions.{Outcome, Transition, move, wait}
-use Rattle.valuation.specs.Valuations.{values_of, each, spread, all_hold, holds}
+use Rattle.valuation.specs.Transitions.{Outcome, move, wait}
+use Rattle.valuation.specs.Valuations.{values_of, spread, all_hold, holds}
 use Rattle.source.specs.Free.{free}
 use Rattle.source.specs.Places.{places, below, rest, place, counter}
 use Rattle.behaviour.specs.Ways.{Way, ways, numbered, all_ways}
 use Rattle.linear.specs.declared.entry.Entry.{Entry}
 use Rattle.linear.specs.declared.entry.Entry.TheVariants.{Reset, Keep, Take}
 use Rattle.linear.specs.Equations.{Summand, Vector}
-use Rattle.behaviour.specs.Linearised.{acts_in, rates_in, goes_to, entries_of, leads_to, summand, summands_of, equation_of}
+use Rattle.behaviour.specs.Linearised.{acts_in, rates_in, entries_of, leads_to, summand, summands_of, equation_of}
 use Rattle.behaviour.specs.Vectors.{acting, entered, arrives, fires, transitions_by, transitions_in}
 use Rattle.source.specs.Sound.{Sound, Calls}
 use Rattle.behaviour.specs.Sets.{Shaped, InSet, To, InTerms}
-use Rattle.behaviour.proofs.Once.{Fitted, fitted}
+use Rattle.behaviour.proofs.Once.{Fitted}
 use Rattle.behaviour.proofs.Lands.{Lands, Found, way_does}
 use Rattle.source.proofs.Mapped.{get_or_each}
 use Rattle.behaviour.proofs.Kept.{good, Good, ways_land, all_joined, all_in_order, all_left, all_right, next_lands, here}

@@ -1,20 +1,20 @@
 -- A tree's transitions, summed, are those of its ways. Assumes nothing.
-use Rattle.std.proofs.Common.{◌≡◌, ℕ, zero, suc, ◌+◌, ◌-◌, ◌<◌, ◌≤◌, Bool, true, false, cond, not, ◌&&◌, ◌||◌, eqb, ◌⊎◌, List, [], ◌∷◌, ◌++◌, map, length, get_or, set, sum_by, sym, refl, ap, ◌∙◌, subst, ap₂, inl, inr, ⊎_elim, arith, get_or-set_other}
+use Rattle.std.proofs.Common.{◌≡◌, ℕ, ◌+◌, Bool, true, false, cond, not, ◌&&◌, eqb, List, [], ◌∷◌, set, sym, refl, ap, ◌∙◌, subst, ap₂, arith, get_or-set_other}
 use mathlib.Core.Path.{fun_ext}
 use Rattle.std.specs.List.{flat_map, AllByRecursion as All}
 use Rattle.std.proofs.ByRecursion.{All-weaker, All-map, All-append}
-use Rattle.std.proofs.lemmas.Bool.{or_parts, cases_Bool, both_ways}
+use Rattle.std.proofs.lemmas.Bool.{or_parts, both_ways}
 use Rattle.language.specs.Meanings.{Meaning, Lawful}
-use Rattle.behaviour.proofs.Once.{Agrees, Scoped}
+use Rattle.behaviour.proofs.Once.{Scoped}
 use Rattle.model.specs.Trees.{Tree, call, when, choice, sum, action, delay}
-use Rattle.source.specs.Models.{node, Process, Model, Next, calls, rests, next, Term}
-use Rattle.valuation.specs.Doings.{Does, acts, waits, does}
-use Rattle.valuation.specs.Transitions.{Outcome, Transition, move, wait}
+use Rattle.source.specs.Models.{Model, Term}
+use Rattle.valuation.specs.Doings.{does}
+use Rattle.valuation.specs.Transitions.{Transition}
 use Rattle.valuation.specs.Valuations.{values_of, holds, spread, all_hold}
 use Rattle.source.specs.Terms.{target, transitions}
 use Rattle.behaviour.specs.Ways.{Way, ways, add_sum, add_condition}
 use Rattle.source.specs.Sound.{Scope, adding, Within}
-use Rattle.source.proofs.Totals.{total, total_append, total_joined, total_map, total_zero, total_swap, total_all, total_cond, total_cond_out}
+use Rattle.source.proofs.Totals.{total, total_append, total_joined, total_map, total_swap, total_all, total_cond, total_cond_out}
 
 joined_none : {X Y : Type 0} (xs : List X) → flat_map {A = Y} (λ (x : X). []) xs ≡ []
 joined_none [] = refl

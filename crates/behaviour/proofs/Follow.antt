@@ -1,9 +1,9 @@
 -- A vector's transitions are derived by the term that it stands for, and those of the term are found at the vector. Assumes nothing.
-use Rattle.std.proofs.Common.{◌≡◌, ℕ, zero, suc, ◌+◌, ◌<◌, ◌≤◌, Bool, true, false, cond, ◌⊎◌, List, [], ◌∷◌, map, length, get_or, sum_by, sym, refl, ap, ◌∙◌, subst, ap₂, inl, inr, ⊎_elim, arith}
+use Rattle.std.proofs.Common.{◌≡◌, ℕ, zero, suc, ◌+◌, ◌<◌, ◌≤◌, Bool, true, false, cond, ◌⊎◌, List, [], ◌∷◌, get_or, sym, refl, ap, ◌∙◌, subst, ⊎_elim, arith}
 use Rattle.std.specs.List.{AllByRecursion as All}
 use Rattle.std.proofs.ByRecursion.{All-get_or}
 use Rattle.language.specs.Meanings.{Meaning, Lawful}
-use Rattle.valuation.specs.Transitions.{Outcome, Transition, move, wait}
+use Rattle.valuation.specs.Transitions.{Transition}
 use Rattle.valuation.specs.Valuations.{each}
 use Rattle.linear.specs.Equations.{Vector}
 use Rattle.model.specs.Trees.{Tree}
@@ -11,7 +11,7 @@ use Rattle.source.specs.Free.{free}
 use Rattle.source.specs.Models.{Model, Term, node, process, no_process}
 use Rattle.source.specs.Terms.{term, transitions, start_value, start_term}
 use Rattle.source.specs.Sound.{Sound}
-use Rattle.source.specs.Rules.{Rule, Derives, Derived, derived, same_rules}
+use Rattle.source.specs.Rules.{Rule, Derives, derived, same_rules}
 use Rattle.source.specs.Published.{Derivation}
 use Rattle.source.proofs.Totals.{total, sum_by_total, total_map}
 use Rattle.source.proofs.Mapped.{each_same, get_or_each}

@@ -1,5 +1,5 @@
 -- A flat model whose children are higher nodes gives a sound model. Assumes nothing.
-use Rattle.std.proofs.Common.{◌≡◌, ℕ, zero, suc, ◌+◌, ◌-◌, ◌<◌, ◌≤◌, true, ◌⊎◌, List, [], ◌∷◌, map, length, get_or, sym, refl, ap, ◌∙◌, subst, ap₂, inl, inr, ⊎_elim, arith}
+use Rattle.std.proofs.Common.{◌≡◌, ℕ, suc, ◌+◌, ◌-◌, ◌<◌, ◌≤◌, true, List, [], ◌∷◌, length, get_or, sym, refl, ap, ◌∙◌, subst, ap₂, ⊎_elim, arith}
 use lib.ListN.{length-map}
 use Rattle.std.specs.List.{AllByRecursion as All}
 use Rattle.std.proofs.ByRecursion.{All-weaker, All-map}
@@ -12,8 +12,8 @@ use Rattle.model.specs.Flat.{Flat}
 use Rattle.model.specs.Nodes as nodes
 use Rattle.model.specs.Nodes.{call_arity, action_arity, arguments_from}
 use Rattle.model.specs.Trees.{Tree, call, when, choice, sum, action, delay, planted, grown, tree_of}
-use Rattle.source.specs.Models.{Process, Model, node, process, no_process, param, headed, model_of}
-use Rattle.source.specs.Sound.{Sound, Here, Numbered, Calls, Owned}
+use Rattle.source.specs.Models.{process, no_process, param, headed, model_of}
+use Rattle.source.specs.Sound.{Sound, Numbered, Calls, Owned}
 
 -- a child of node n is a node, and higher; a call names a process and has its arguments
 abbrev pub Kid : Flat → ℕ → ℕ → Type 0

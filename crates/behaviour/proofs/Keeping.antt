@@ -1,12 +1,11 @@
 -- What the equation keeps, in one record. Assumes nothing.
-use Rattle.std.proofs.Common.{◌≡◌, ℕ, ◌-◌, ◌<◌, Bool, true, false, cond, length, get_or, sym, refl, ap, ◌∙◌, subst, arith}
+use Rattle.std.proofs.Common.{◌≡◌, ℕ, ◌-◌, ◌<◌, Bool, true, false, cond, length, get_or, sym, refl, subst, arith}
 use Rattle.std.proofs.lemmas.List.FromFn.{length-map-range_with_len}
-use Rattle.language.specs.Meanings.{Meaning, Lawful}
 use Rattle.source.specs.Models.{Model, process, param}
 use Rattle.source.specs.Terms.{start_value}
-use Rattle.source.specs.Sound.{Fits, Sound}
+use Rattle.source.specs.Sound.{Sound}
 use Rattle.source.proofs.Mapped.{get_or_each}
-use Rattle.behaviour.specs.Claims.{Kept, Keeps}
+use Rattle.behaviour.specs.Claims.{Keeps}
 use Rattle.behaviour.proofs.Once.{fitted}
 use Rattle.behaviour.proofs.Kept.{counted}
 use Rattle.behaviour.proofs.Closes.{closes, term_in, terms_close}

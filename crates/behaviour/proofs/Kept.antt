@@ -1,30 +1,29 @@
 -- A vector's transitions, summed, are those of the term that it stands for. Assumes nothing.
-use Rattle.std.proofs.Common.{◌≡◌, ℕ, zero, suc, ◌+◌, ◌-◌, ◌<◌, ◌≤◌, Bool, true, false, cond, not, ◌&&◌, ◌||◌, eqb, ◌⊎◌, List, [], ◌∷◌, ◌++◌, map, length, get_or, set, sum_by, count_by, filter, sym, refl, ap, ◌∙◌, subst, ap₂, inl, inr, ⊎_elim, arith}
+use Rattle.std.proofs.Common.{◌≡◌, ℕ, suc, ◌+◌, ◌-◌, ◌<◌, ◌≤◌, Bool, true, false, cond, not, ◌&&◌, eqb, List, [], ◌∷◌, ◌++◌, map, length, get_or, sum_by, sym, refl, ap, ◌∙◌, subst, ap₂, ⊎_elim, arith}
 use mathlib.Core.Path.{fun_ext}
 use lib.ListN.{get_or-eq_default}
 use Rattle.std.specs.List.{range_with_len, flat_map, prefix_len, AllByRecursion as All}
 use Rattle.std.proofs.ByRecursion.{All-weaker, All-map, All-append, all_kept_by, All-get_or}
 use Rattle.std.proofs.lemmas.List.FromFn.{length-map-range_with_len}
-use Rattle.std.proofs.lemmas.Bool.{eq-eqb, ne_eqb, eqb-true, eqb-false, cases_Bool, cases_eq, cases_lt}
+use Rattle.std.proofs.lemmas.Bool.{eq-eqb, ne_eqb, eqb-true, cases_eq, cases_lt}
 use Rattle.language.specs.Meanings.{Meaning, Lawful}
-use Rattle.behaviour.proofs.Once.{Agrees, Scoped, Fitted, fitted}
+use Rattle.behaviour.proofs.Once.{Agrees, Scoped, Fitted}
 use Rattle.model.specs.Trees.{Tree, call, when, choice, sum, action, delay}
-use Rattle.source.specs.Models.{node, Process, Model, Next, calls, rests, next, no_process, Term, process, param}
+use Rattle.source.specs.Models.{node, Process, Model, next, no_process, Term, param}
 use Rattle.valuation.specs.Doings.{Does, acts, waits}
-use Rattle.valuation.specs.Transitions.{Outcome, Transition, move, wait}
-use Rattle.valuation.specs.Valuations.{each}
-use Rattle.source.specs.Free.{named, bound, free}
-use Rattle.source.specs.Terms.{term, transitions}
-use Rattle.source.specs.Places.{in_order, rest, below, places, counter, place}
+use Rattle.valuation.specs.Transitions.{Transition}
+use Rattle.source.specs.Free.{named}
+use Rattle.source.specs.Terms.{transitions}
+use Rattle.source.specs.Places.{in_order, rest, below, places, place}
 use Rattle.behaviour.specs.Ways.{Way, ways, add_sum, add_condition, numbered, all_ways}
 use Rattle.linear.specs.Equations.{Summand, Vector}
 use Rattle.behaviour.specs.Linearised.{summand, acts_in, rates_in, summands_of, equation_of, stands, transition_to, term_transitions, standing}
 use Rattle.behaviour.specs.Vectors.{acting, transitions_by, transitions_in, fires}
 use Rattle.source.specs.Sound.{Scope, adding, Calls, Here, Numbered, Sound}
-use Rattle.behaviour.specs.Sets.{Shaped, InSet}
-use Rattle.source.proofs.Totals.{total, sum_by_total, total_append, total_joined, total_map, total_all, total_cond, total_cond_out, total_split, total_in_order, total_plus}
-use Rattle.behaviour.proofs.Scopes.{unbound, Alike, transitions_same}
-use Rattle.behaviour.proofs.Expands.{along, expands}
+use Rattle.behaviour.specs.Sets.{Shaped}
+use Rattle.source.proofs.Totals.{total, sum_by_total, total_append, total_joined, total_map, total_all, total_cond, total_cond_out, total_in_order, total_plus}
+use Rattle.behaviour.proofs.Scopes.{unbound, transitions_same}
+use Rattle.behaviour.proofs.Expands.{expands}
 use Rattle.behaviour.proofs.Lands.{Found, Lands, fires_along, way_does}
 use Rattle.source.proofs.Mapped.{get_or_each}
 

@@ -1,24 +1,20 @@
 -- A summand's transitions are its way's: the target vectors stand for the target terms. Assumes nothing.
-use Rattle.std.proofs.Common.{◌≡◌, ℕ, zero, suc, ◌+◌, ◌-◌, ◌<◌, ◌≤◌, Bool, true, false, cond, not, ◌&&◌, ◌||◌, eqb, ◌⊎◌, List, [], ◌∷◌, ◌++◌, map, length, get_or, set, fold, sum_by, sym, refl, ap, ◌∙◌, subst, ap₂, inl, inr, ⊎_elim, arith}
+use Rattle.std.proofs.Common.{◌≡◌, ℕ, ◌+◌, ◌-◌, ◌<◌, ◌≤◌, Bool, true, false, cond, eqb, List, [], ◌∷◌, map, length, get_or, set, fold, sum_by, sym, refl, ap, ◌∙◌}
 use mathlib.Core.Path.{fun_ext}
-use Rattle.std.specs.List.{range_with_len, flat_map, AllByRecursion as All}
-use Rattle.std.proofs.lemmas.List.{map-append}
-use Rattle.std.proofs.lemmas.List.FromFn.{get_or-map-range_with_len}
+use Rattle.std.specs.List.{flat_map}
 use Rattle.language.specs.Meanings.{Meaning, Lawful}
-use Rattle.behaviour.proofs.Once.{Agrees}
-use Rattle.model.specs.Trees.{Tree, call, when, choice, sum, action, delay}
-use Rattle.source.specs.Models.{node, Process, Model, Next, calls, rests, next, Term, process, param}
+use Rattle.model.specs.Trees.{Tree}
+use Rattle.source.specs.Models.{node, Model, Next, calls, rests, Term, process, param}
 use Rattle.valuation.specs.Doings.{Does, acts, waits, outcomes, does}
 use Rattle.valuation.specs.Transitions.{Outcome, Transition, move, wait}
-use Rattle.valuation.specs.Valuations.{values_of, each, cut, holds, spread, all_hold}
+use Rattle.valuation.specs.Valuations.{values_of, cut, spread, all_hold}
 use Rattle.source.specs.Free.{free}
-use Rattle.source.specs.Terms.{term, given, target, transitions}
-use Rattle.behaviour.specs.Ways.{Way, ways}
-use Rattle.linear.specs.declared.entry.Entry.{Entry}
+use Rattle.source.specs.Terms.{term, given, target}
+use Rattle.behaviour.specs.Ways.{Way}
 use Rattle.linear.specs.declared.entry.Entry.TheVariants.{Reset, Keep, Take}
-use Rattle.linear.specs.Equations.{Summand, Vector}
-use Rattle.behaviour.specs.Linearised.{summand, goes_to, entries_of, leads_to, stands, outcome_to, transition_to}
-use Rattle.behaviour.specs.Vectors.{entered, arrives, fires}
+use Rattle.linear.specs.Equations.{Vector}
+use Rattle.behaviour.specs.Linearised.{entries_of, leads_to, stands, outcome_to, transition_to}
+use Rattle.behaviour.specs.Vectors.{entered, arrives}
 use Rattle.source.specs.Places.{place, counter, places}
 use Rattle.behaviour.proofs.Expands.{along}
 use Rattle.source.proofs.Mapped.{each_same, get_or_each, map_map, map_joined}

@@ -1,6 +1,6 @@
 -- What stands above a node passes from each node of an accepted model to its children, and a place has its own. Assumes nothing.
-use Rattle.std.proofs.Common.{◌≡◌, ℕ, zero, suc, ◌+◌, ◌-◌, ◌<◌, ◌≤◌, Bool, true, false, cond, ◌||◌, eqb, ◌⊎◌, List, [], ◌∷◌, ◌++◌, map, length, get_or, replicate, Some, None, Option, sym, refl, ap, ◌∙◌, subst, ap₂, inl, inr, ⊎_elim, arith}
-use Rattle.std.specs.List.{range_with_len, flat_map, AllByRecursion as All}
+use Rattle.std.proofs.Common.{◌≡◌, ℕ, zero, suc, ◌+◌, ◌-◌, ◌<◌, ◌≤◌, Bool, true, false, cond, eqb, List, get_or, Some, None, Option, sym, refl, ap, ◌∙◌, subst, ap₂, inl, inr, ⊎_elim, arith}
+use Rattle.std.specs.List.{range_with_len, AllByRecursion as All}
 use Rattle.std.proofs.ByRecursion.{All-map}
 use Rattle.std.proofs.lemmas.Bool.{eq-eqb, eqb-true, or_parts, or_cases, or_left, or_right, cases_Bool, cases_lt, both_ways}
 use Rattle.linear.specs.Equations.{Guarded}
@@ -12,17 +12,17 @@ use Rattle.model_rules.specs.declared.shape.Shape.TheVariants as shape
 use Rattle.model_rules.specs.Sound as rules
 use Rattle.model_rules.specs.Sound.{Place, body, child, IsNode, LeadsTo}
 use Rattle.model.specs.Flat.{Flat, flat, process_of}
-use Rattle.model.specs.Nodes.{NodeValue, call, condition, choice, sum, action, delay, node_in, value_in, arguments_from, call_arity, action_arity}
+use Rattle.model.specs.Nodes.{NodeValue, call, condition, choice, sum, action, delay, node_in, value_in}
 use Rattle.model.specs.Trees as trees
 use Rattle.model.specs.Trees.{Tree, planted, tree_of}
 use Rattle.model.specs.WellFormed.{WellFormed}
 use Rattle.model.proofs.Numbered.{numbered_none}
 use Rattle.model.specs.Flat.{node_of}
-use Rattle.source.specs.Models.{Process, Model, Next, calls, rests, next, node, headed, model_of}
+use Rattle.source.specs.Models.{next, node, headed, model_of}
 use Rattle.source.specs.Places.{counter}
 use Rattle.source.proofs.Enumerate.{all_counting}
 use Rattle.behaviour.specs.Passing.{place_itself, and_sum, and_condition, passed, passes_to, above_at, above}
-use Rattle.behaviour.proofs.Accepted.{At, at_node_lem, number_of_lem, nodes_counted}
+use Rattle.behaviour.proofs.Accepted.{at_node_lem, number_of_lem}
 use Rattle.behaviour.proofs.ByNode.{Arrived, Passes}
 
 module _ (nodes : ℕ → Option NodeValue) (start : ℕ → Guarded) where

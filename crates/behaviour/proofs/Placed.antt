@@ -1,15 +1,14 @@
 -- Where each node is a child or a body once, each action or delay node gives one summand. Assumes nothing.
-use Rattle.std.proofs.Common.{◌≡◌, ℕ, zero, suc, ◌+◌, ◌-◌, ◌*◌, ◌<◌, ◌≤◌, Bool, true, false, cond, not, eqb, ltb, ◌⊎◌, List, [], ◌∷◌, ◌++◌, map, length, filter, sym, refl, ap, ◌∙◌, subst, ap₂, inl, inr, ⊎_elim, arith}
-use mathlib.Core.Path.{fun_ext}
+use Rattle.std.proofs.Common.{◌≡◌, ℕ, zero, suc, ◌+◌, ◌*◌, ◌<◌, ◌≤◌, Bool, true, false, cond, eqb, ◌⊎◌, List, [], ◌∷◌, ◌++◌, sym, refl, ap, ◌∙◌, inl, inr, ⊎_elim, arith}
 use Rattle.std.specs.List.{range_with_len, flat_map, AllByRecursion as All}
 use Rattle.std.proofs.ByRecursion.{All-weaker, All-append}
-use Rattle.std.proofs.lemmas.Bool.{eq-eqb, ne_eqb, eqb-true, eqb-false, cases_eq, cases_Bool, cases_lt}
+use Rattle.std.proofs.lemmas.Bool.{eqb-true, cases_lt}
 use Rattle.model.specs.Trees.{Tree, call, when, choice, sum, action, delay}
-use Rattle.source.specs.Models.{node, Process, Model, Next, next}
-use Rattle.behaviour.specs.Ways.{Way, ways, add_sum, add_condition, numbered}
-use Rattle.source.specs.Places.{below, rest, unsorted, places, in_order}
-use Rattle.source.specs.Sound.{Here, Numbered, Sound}
-use Rattle.source.proofs.Totals.{total, total_append, total_joined, total_map, total_zero, total_plus, total_swap, total_all, once, total_in_order}
+use Rattle.source.specs.Models.{node, Model, next}
+use Rattle.behaviour.specs.Ways.{ways, add_sum, add_condition}
+use Rattle.source.specs.Places.{below, rest, unsorted}
+use Rattle.source.specs.Sound.{Numbered, Sound}
+use Rattle.source.proofs.Totals.{total, total_append, total_joined, total_map, total_plus, total_swap, total_all}
 use Rattle.behaviour.proofs.Kept.{all_joined}
 use Rattle.source.proofs.Enumerate.{at_one, all_counting}
 

@@ -1,6 +1,6 @@
 -- The places of an accepted model are its resting places.
-use Rattle.std.proofs.Common.{◌≡◌, ℕ, zero, suc, ◌+◌, ◌<◌, ◌≤◌, ◌⊎◌, List, [], ◌∷◌, ◌++◌, length, get_or, sym, refl, ap, ◌∙◌, subst, inl, inr, arith}
-use Rattle.std.specs.List.{range_with_len, flat_map, AllByRecursion as All}
+use Rattle.std.proofs.Common.{◌≡◌, ℕ, zero, suc, ◌+◌, ◌<◌, ◌≤◌, List, ◌∷◌, get_or, sym, refl, ap, ◌∙◌, subst, inl, inr, arith}
+use Rattle.std.specs.List.{range_with_len, AllByRecursion as All}
 use Rattle.std.proofs.ByRecursion.{All-map, All-append}
 use Rattle.model_file.specs.declared.layout.Layout.{Layout}
 use Rattle.model_file.specs.Fields.{node_count, process_count, body_of}
@@ -13,7 +13,7 @@ use Rattle.model.specs.Flat.{Flat, flat, process_of}
 use Rattle.model.specs.Trees as trees
 use Rattle.model.specs.Trees.{Tree, planted, tree_of}
 use Rattle.model.specs.WellFormed.{WellFormed}
-use Rattle.source.specs.Models.{Model, next, node, headed, model_of}
+use Rattle.source.specs.Models.{next, node, headed, model_of}
 use Rattle.source.specs.Places.{below, rest, unsorted, places}
 use Rattle.source.proofs.Enumerate.{all_counting}
 use Rattle.behaviour.proofs.Accepted.{at_node_lem, number_of_lem}

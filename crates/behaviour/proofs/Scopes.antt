@@ -1,20 +1,20 @@
 -- Steps depend on the free variables alone. Assumes nothing.
-use Rattle.std.proofs.Common.{◌≡◌, ℕ, zero, suc, ◌+◌, ◌-◌, ◌<◌, ◌≤◌, Bool, true, false, cond, not, ◌&&◌, ◌||◌, eqb, ltb, leb, ◌⊎◌, List, [], ◌∷◌, ◌++◌, map, length, get_or, set, sum_by, sym, refl, ap, ◌∙◌, subst, ap₂, inl, inr, ⊎_elim, arith, length-set, get_or-set_other, get_or-set_same}
+use Rattle.std.proofs.Common.{◌≡◌, ℕ, ◌+◌, ◌-◌, ◌<◌, ◌≤◌, Bool, true, false, cond, not, ◌||◌, eqb, ltb, leb, List, [], ◌∷◌, ◌++◌, map, length, get_or, set, sum_by, sym, refl, ap, ◌∙◌, ap₂, ⊎_elim, arith, length-set, get_or-set_other, get_or-set_same}
 use mathlib.Core.Path.{fun_ext}
 use lib.ListN.{get_or-eq_default}
 use lib.Seq.{set_out}
 use Rattle.std.specs.List.{flat_map, AllByRecursion as All}
 use Rattle.std.proofs.ByRecursion.{All-get_or}
-use Rattle.std.proofs.lemmas.Bool.{eq-eqb, ne_eqb, eqb-true, eqb-false, or_left, or_right, or_cases, or_parts, or_from, and_parts, cases_eq, cases_lt, cases_Bool, both_ways, not-true, leb-true, ltb-true}
+use Rattle.std.proofs.lemmas.Bool.{ne_eqb, or_left, or_right, or_cases, or_parts, or_from, and_parts, cases_eq, cases_lt, both_ways, not-true, leb-true, ltb-true}
 use Rattle.language.specs.Meanings.{Meaning, Lawful}
 use Rattle.behaviour.proofs.Once.{Agrees, Scoped}
 use Rattle.model.specs.Trees.{Tree, call, when, choice, sum, action, delay}
-use Rattle.source.specs.Models.{node, Process, Model, Next, calls, rests, next, Term, process, param}
-use Rattle.valuation.specs.Doings.{Does, acts, waits, outcomes, does}
+use Rattle.source.specs.Models.{node, Model, calls, rests, next, Term, process, param}
+use Rattle.valuation.specs.Doings.{acts, does}
 use Rattle.valuation.specs.Transitions.{Outcome, Transition, move, wait}
-use Rattle.valuation.specs.Valuations.{values_of, each, cut, holds}
+use Rattle.valuation.specs.Valuations.{values_of, each, cut}
 use Rattle.source.specs.Free.{named, named_in, bound, free}
-use Rattle.source.specs.Terms.{term, given, target, transitions}
+use Rattle.source.specs.Terms.{term, target, transitions}
 use Rattle.source.specs.Sound.{Scope, adding, Within, Calls}
 
 pub agree_set : (ρ σ : List ℕ) (x d y : ℕ) → length ρ ≡ length σ → (eqb x y ≡ false → Agrees ρ σ y) → Agrees (set ρ x d) (set σ x d) y

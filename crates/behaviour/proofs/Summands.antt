@@ -1,22 +1,20 @@
 -- The summands of an accepted model, node by node. Assumes nothing.
-use Rattle.std.proofs.Common.{◌≡◌, ℕ, zero, suc, ◌+◌, ◌<◌, List, [], ◌∷◌, ◌++◌, map, length, replicate, Some, None, Option, sym, refl, ap, ◌∙◌, subst, ap₂, arith}
+use Rattle.std.proofs.Common.{◌≡◌, ℕ, List, [], ◌∷◌, ◌++◌, map, replicate, Some, Option, sym, refl, ap, ◌∙◌, ap₂, arith}
 use Rattle.std.specs.List.{range_with_len, flat_map, AllByRecursion as All}
 use Rattle.std.proofs.lemmas.List.{append_assoc}
 use Rattle.language.specs.Meanings.{Meaning}
-use Rattle.valuation.specs.Doings.{Does, acts, waits}
+use Rattle.valuation.specs.Doings.{Does}
 use Rattle.linear.specs.Equations.{Guarded, Acts, Leads, Summand}
 use Rattle.model_file.specs.Fields.{node_count}
 use Rattle.model_file.specs.Layouts.{layout_of}
 use Rattle.model_rules.specs.declared.shape.Shape.{Shape}
 use Rattle.model_rules.specs.declared.shape.Shape.TheVariants as shape
 use Rattle.model_rules.specs.Sound as rules
-use Rattle.words.specs.Words.{bytes_of}
 use Rattle.model.specs.Flat.{Flat, flat}
-use Rattle.model.specs.Nodes.{node_in, value_in, arguments_from, call_arity, action_arity}
+use Rattle.model.specs.Nodes.{node_in, value_in, arguments_from, action_arity}
 use Rattle.model.specs.Trees.{Tree, planted, tree_of}
 use Rattle.model.specs.WellFormed.{WellFormed}
 use Rattle.source.specs.Models.{Model, next, model_of}
-use Rattle.source.specs.Nodes.{words_in}
 use Rattle.source.specs.Places.{counter}
 use Rattle.source.proofs.Enumerate.{all_counting}
 use Rattle.source.proofs.Words.{words_back}
@@ -24,11 +22,11 @@ use Rattle.behaviour.specs.Linearised.{acts_in, rates_in, leads_to, summand, sum
 use Rattle.behaviour.specs.Passing.{place_itself, above, actions_at, delays_at}
 use Rattle.behaviour.specs.Ways.{Way, all_ways}
 use Rattle.behaviour.specs.Accepted.{ByNodes}
-use Rattle.behaviour.proofs.Accepted.{accepted_sound, accepted_tree, accepted_once, at_node_lem, nodes_counted}
+use Rattle.behaviour.proofs.Accepted.{accepted_sound, accepted_once, at_node_lem, nodes_counted}
 use Rattle.behaviour.proofs.Grown.{sound}
-use Rattle.behaviour.proofs.ByNode.{by_node, doing, going, way_to}
+use Rattle.behaviour.proofs.ByNode.{by_node, doing, going}
 use Rattle.behaviour.proofs.Nodewise.{all_pass}
-use Rattle.behaviour.proofs.Placed.{is_leaf, PlacedOnce}
+use Rattle.behaviour.proofs.Placed.{is_leaf}
 
 joined_joined : {X Y Z : Type 0} (h : Y → List Z) (f : X → List Y) (xs : List X) → flat_map h (flat_map f xs) ≡ flat_map (λ x. flat_map h (f x)) xs
 joined_joined h f [] = refl

@@ -1,6 +1,6 @@
 -- Over two sides that answer by the transitions of vectors and terms, the equation behaves as the model. Assumes nothing.
-use Rattle.std.proofs.Common.{◌≡◌, ℕ, zero, suc, ◌+◌, ◌-◌, ◌<◌, ◌≤◌, Bool, true, false, cond, ◌&&◌, eqb, ◌⊎◌, List, [], ◌∷◌, ◌++◌, map, length, get_or, Some, None, sum_by, Option, sym, refl, ap, ◌∙◌, subst, ap₂, inl, inr, ⊎_elim, arith}
-use Rattle.std.specs.List.{slice_get, flat_map, AllByRecursion as All}
+use Rattle.std.proofs.Common.{◌≡◌, ℕ, zero, suc, ◌+◌, ◌-◌, ◌<◌, ◌≤◌, Bool, true, false, cond, ◌&&◌, eqb, List, [], ◌∷◌, map, length, get_or, Some, None, sum_by, Option, sym, refl, ap, ◌∙◌, subst, ap₂, inl, inr, arith}
+use Rattle.std.specs.List.{slice_get}
 use Rattle.std.proofs.ByRecursion.{All-get_or}
 use Rattle.std.proofs.lemmas.Bool.{eqb-true, and_parts}
 use Rattle.language.specs.Meanings.{Meaning, Lawful}
@@ -16,18 +16,18 @@ use Rattle.system.specs.declared.answers.Step.{Step}
 use Rattle.system.specs.declared.answers.Step.TheVariants.{Acted, Waited}
 use Rattle.system.proofs.Reachings.{run_walks}
 use Rattle.system.proofs.WalkLaws.{reached_member, walk_rules}
-use Rattle.model.specs.Trees.{Tree, call}
+use Rattle.model.specs.Trees.{call}
 use Rattle.source.specs.Models.{Model, Term, process}
-use Rattle.source.specs.Terms.{start_value, start_term}
+use Rattle.source.specs.Terms.{start_value}
 use Rattle.source.specs.Places.{places, place}
 use Rattle.source.specs.Sound.{Sound}
-use Rattle.source.specs.Rules.{Rule, same_list}
+use Rattle.source.specs.Rules.{same_list}
 use Rattle.source.specs.Published.{AtParams, IsTerm, Derivation}
 use Rattle.source.proofs.Totals.{total, sum_by_total, total_joined}
 use Rattle.source.proofs.InWords.{is_term_lem, at_params, starts}
-use Rattle.behaviour.specs.Linearised.{start_vector, equation_of, stands, standing, outcome_to, transition_to, term_transitions}
+use Rattle.behaviour.specs.Linearised.{equation_of, stands, standing, outcome_to, transition_to, term_transitions}
 use Rattle.behaviour.specs.Vectors.{transitions_in}
-use Rattle.behaviour.specs.Sets.{Shaped, InSet, InTerms}
+use Rattle.behaviour.specs.Sets.{InSet, InTerms}
 use Rattle.behaviour.specs.Lists as lists
 use Rattle.behaviour.specs.Lists.{outcome_as, move_as, delay_as, moves_as, delays_as, move_to, delay_to}
 use Rattle.behaviour.specs.Sides.{vector_words, vector_of, term_words, stands_for, LinearAnswers, SourceAnswers}

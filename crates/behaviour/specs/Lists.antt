@@ -2,7 +2,7 @@
 --     moves_as w ts, delays_as w ts    those of a list of transitions, where w gives a state's words
 --     move_to g, delay_to g            one target for another
 --     same_move, rate_into             what is counted of them
-use Rattle.std.specs.Prelude.{ℕ, Bool, true, false, cond, ◌&&◌, List, [], ◌∷◌, map, ◌==◌, nat_eq}
+use Rattle.std.specs.Prelude.{ℕ, Bool, cond, ◌&&◌, List, [], ◌∷◌, map, ◌==◌, nat_eq}
 use Rattle.std.specs.List.{flat_map}
 use Rattle.valuation.specs.Transitions as transition
 use Rattle.valuation.specs.Transitions.{Transition, move, wait}

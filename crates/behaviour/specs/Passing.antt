@@ -4,7 +4,7 @@
 --     above_at nodes start n k    the same once the first n nodes have, where `start` is given at first
 --     above nodes start i    what stands above node i
 --     actions_at, delays_at    the summand of an action node, and of a delay node
-use Rattle.std.specs.Prelude.{ℕ, zero, suc, Bool, true, false, cond, ◌||◌, List, [], ◌∷◌, ◌++◌, Some, None, Option, ◌==◌}
+use Rattle.std.specs.Prelude.{ℕ, zero, suc, Bool, false, cond, ◌||◌, List, [], ◌∷◌, ◌++◌, Some, None, Option, ◌==◌}
 use Rattle.linear.specs.Equations.{Guarded, Acts, Leads, Summand}
 use Rattle.model.specs.Nodes.{NodeValue, call, condition, choice, sum, action, delay}
 use Rattle.source.specs.Nodes.{words_in}

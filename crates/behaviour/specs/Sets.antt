@@ -1,8 +1,8 @@
 -- Which vectors and which terms there are.
-use Rattle.std.specs.Prelude.{◌≡◌, ℕ, ◌<◌, ◌≤◌, false, List, length, slice_index}
+use Rattle.std.specs.Prelude.{◌≡◌, ℕ, ◌<◌, ◌≤◌, false, length, slice_index}
 use Rattle.std.specs.List.{AllByRecursion as All}
 use Rattle.language.specs.Meanings.{Meaning}
-use Rattle.valuation.specs.Transitions.{Outcome, Transition, move, wait}
+use Rattle.valuation.specs.Transitions.{Transition, move, wait}
 use Rattle.linear.specs.Equations.{Vector}
 use Rattle.source.specs.Free.{free}
 use Rattle.source.specs.Models.{Model, Term, node}

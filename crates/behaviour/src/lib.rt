@@ -1,4 +1,6 @@
 // The equation of a model keeps what its terms do.
+#![tactic(auto)]
+
 ghost use Rattle.behaviour.specs.Claims.{Keeps, BehavesOverSides};
 ghost use Rattle.behaviour.specs.Accepted.{Accepts, ByNodes};
 ghost use Rattle.behaviour.specs.Behaves.{Counted};

@@ -1,6 +1,6 @@
 -- Two pools of servers: their states, moves and delays.
 use Rattle.std.specs.Prelude.{ℕ, ◌+◌, ◌-◌, Bool, cond, ◌&&◌, List, [], ◌∷◌, length, ◌==◌, nat_lt, slice_index}
-use Rattle.system.specs.Systems.{Move, Outcome, Delay, Meaning}
+use Rattle.system.specs.Systems.{Move, Delay, Meaning}
 
 abbrev pub in_pools : ℕ → ℕ → List ℕ → Bool
 in_pools fast slow x = length x == 2 && nat_lt (slice_index x 0) fast && nat_lt (slice_index x 1) slow

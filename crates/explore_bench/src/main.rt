@@ -1,4 +1,6 @@
 // Explores two pools of servers, FAST times SLOW states, and says how many it found.
+#![tactic(auto)]
+
 mod pools;
 
 use anyhow::anyhow;

@@ -1,5 +1,5 @@
 -- What is in scope at a node of an accepted model is in scope at its children, with what the node binds; at a body, the parameters are.
-use Rattle.std.proofs.Common.{◌≡◌, ℕ, zero, suc, ◌+◌, ◌-◌, ◌<◌, ◌≤◌, Bool, true, false, cond, ◌&&◌, ◌||◌, eqb, ◌⊎◌, List, [], ◌∷◌, length, get_or, is_ok, Some, None, Option, sym, refl, ap, ◌∙◌, subst, ap₂, inl, inr, ⊎_elim, arith}
+use Rattle.std.proofs.Common.{◌≡◌, ℕ, zero, suc, ◌+◌, ◌-◌, ◌<◌, ◌≤◌, Bool, true, false, ◌&&◌, ◌||◌, eqb, List, length, get_or, is_ok, Some, sym, refl, ap, ◌∙◌, subst, ap₂, ⊎_elim, arith}
 use Rattle.std.specs.List.{slice_get}
 use Rattle.std.proofs.lemmas.Bool.{eq-eqb, ne_eqb, eqb-true, or_cases, or_left, or_right, cases_Bool, cases_lt, both_ways, and_left}
 use Rattle.model_file.specs.declared.layout.Layout.{Layout}
@@ -12,13 +12,13 @@ use Rattle.model_rules.specs.Sound.{Place, body, child, IsNode, Names, Stands}
 use Rattle.model_rules.proofs.Decoded.{shape_is}
 use Rattle.model.specs.Accept.{judged}
 use Rattle.model.specs.Flat.{Flat, flat, process_of, node_of, or_delay}
-use Rattle.model.specs.Nodes.{NodeValue, node_in, value_in}
-use Rattle.model.specs.Trees.{Tree, planted, tree_of}
+use Rattle.model.specs.Nodes.{node_in, value_in}
+use Rattle.model.specs.Trees.{planted, tree_of}
 use Rattle.model.proofs.Numbered.{numbered_length, numbered_at, numbered_nth, numbered_none}
 use Rattle.source.specs.Nodes.{own_binds}
 use Rattle.source.proofs.Flats.{sound, all_rise, node_number}
 use Rattle.source.proofs.Grown.{tree_is}
-use Rattle.fit.specs.Scopes.{any_below, in_node, parameter, begins, is_child, handed, starts, scope_at, in_scope}
+use Rattle.fit.specs.Scopes.{in_node, parameter, begins, is_child, handed, starts, scope_at, in_scope}
 use Rattle.fit.proofs.Any.{below_none, below_only}
 
 -- whose place it is: 0 for a body, one more than the parent for a child

@@ -1,5 +1,5 @@
 -- A language fits the trees of an accepted model just where no node is at fault.
-use Rattle.std.proofs.Common.{◌≡◌, ℕ, zero, suc, ◌+◌, ◌<◌, ◌≤◌, Bool, true, false, cond, ◌||◌, List, [], ◌∷◌, map, length, get_or, is_ok, Some, sym, refl, ap, ◌∙◌, subst, arith}
+use Rattle.std.proofs.Common.{◌≡◌, ℕ, zero, suc, ◌+◌, ◌<◌, ◌≤◌, true, false, ◌||◌, List, [], ◌∷◌, map, length, get_or, is_ok, Some, sym, subst, arith}
 use mathlib.Core.Path.{fun_ext}
 use Rattle.std.specs.List.{range_with_len, AllByRecursion as All}
 use Rattle.std.proofs.ByRecursion.{All-map, All-get_or, All-from_get_or}
@@ -17,16 +17,16 @@ use Rattle.model.specs.Flat.{Flat, flat, process_of}
 use Rattle.model.specs.Nodes.{value_in}
 use Rattle.model.specs.Trees.{Tree, planted, tree_of}
 use Rattle.model.proofs.Numbered.{numbered_nth}
-use Rattle.source.specs.Models.{Process, param, headed, model_of}
+use Rattle.source.specs.Models.{param, headed, model_of}
 use Rattle.source.specs.Nodes.{own_binds}
 use Rattle.source.specs.Sound.{Scope, InScope, Fits}
 use Rattle.source.proofs.Enumerate.{all_counting}
 use Rattle.source.proofs.Flats.{sound}
 use Rattle.fit.specs.Fitting.{beyond_at, strays_at, stray_at}
-use Rattle.fit.specs.Scopes.{any_below, in_node, in_scope}
+use Rattle.fit.specs.Scopes.{in_node, in_scope}
 use Rattle.fit.specs.Uses.{uses_beyond, strays}
 use Rattle.fit.proofs.Any.{below_none, below_at}
-use Rattle.fit.proofs.Handing.{At, at, higher, to_child, at_body}
+use Rattle.fit.proofs.Handing.{at, higher, to_child, at_body}
 use Rattle.fit.proofs.Used.{root_to, root_from}
 use Rattle.fit.proofs.Words.{RootIn, all_nth}
 

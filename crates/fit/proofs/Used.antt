@@ -1,6 +1,6 @@
 -- The tests of a node's expressions, and what they say of the expressions at the root of its tree.
 -- Assumes that expressions name variables below 16 only.
-use Rattle.std.proofs.Common.{◌≡◌, ℕ, ◌<◌, Bool, true, false, not, ◌&&◌, ◌||◌, eqb, leb, List, [], ◌∷◌, Some, sym, refl, ap, ◌∙◌, subst, ⊎_elim}
+use Rattle.std.proofs.Common.{◌≡◌, ℕ, ◌<◌, Bool, true, false, not, ◌&&◌, ◌||◌, eqb, leb, List, [], ◌∷◌, Some, sym, refl, subst, ⊎_elim}
 use Rattle.std.specs.List.{AllByRecursion as All}
 use Rattle.std.proofs.lemmas.Bool.{or_parts, or_from, and_cases, and_right, not-false, not_from_true, cases_Bool, and_left, both_ways, leb-false, lt-leb}
 use Rattle.words.specs.Words.{bytes_of}

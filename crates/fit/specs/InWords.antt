@@ -5,7 +5,7 @@
 --     IsParameter q x   x is one of the parameters of the process q, which it counts from its first one on
 --     Known q s x       x is in scope where the way s down the tree of q ends
 --     Suits L m         every expression used in the tree of a process is below the count, and names only variables in scope
-use Rattle.std.specs.Prelude.{◌≡◌, ℕ, ◌+◌, ◌<◌, true, ◌⊎◌, List, Some}
+use Rattle.std.specs.Prelude.{◌≡◌, ℕ, ◌+◌, ◌<◌, true, ◌⊎◌, Some}
 use Rattle.std.specs.List.{slice_get}
 use Rattle.language.specs.Meanings.{Meaning}
 use Rattle.model.specs.Trees.{Tree, call, when, choice, sum, action, delay}

@@ -9,7 +9,7 @@
 --     starts g x k              x is a parameter, and k the body, of some process
 --     scope_at g x n k           x is in scope at node k, as far as the processes and the first n nodes tell
 --     in_scope g k x             x is in scope at node k
-use Rattle.std.specs.Prelude.{ℕ, zero, suc, ◌+◌, Bool, true, false, ◌&&◌, ◌||◌, length, Some, None, Option, ◌==◌, nat_le, nat_lt}
+use Rattle.std.specs.Prelude.{ℕ, zero, suc, ◌+◌, Bool, false, ◌&&◌, ◌||◌, length, Some, None, Option, ◌==◌, nat_le, nat_lt}
 use Rattle.std.specs.List.{slice_get}
 use Rattle.model.specs.declared.node.Process.{Process}
 use Rattle.model.specs.Flat.{Flat}

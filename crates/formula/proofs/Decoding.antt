@@ -1,5 +1,5 @@
 -- A cell that a file gives keeps the rules. Assumes nothing.
-use Rattle.std.proofs.Common.{◌≡◌, ℕ, ◌+◌, Bool, true, cond, ◌&&◌, eqb, ltb, List, length, Some, None, Ok, Err, Option, Result, refl}
+use Rattle.std.proofs.Common.{◌≡◌, ℕ, ◌+◌, true, ◌&&◌, eqb, ltb, List, length, Some, None, Ok, Err, Option, Result, refl}
 use Rattle.std.proofs.lemmas.Bool.{and_parts, cond_both}
 use Rattle.words.specs.Words.{word_at}
 use Rattle.language.specs.declared.fault.DataFault.{DataFault}

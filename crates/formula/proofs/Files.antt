@@ -1,5 +1,5 @@
 -- The formula that a file gives: the first cells of a table. Assumes nothing.
-use Rattle.std.proofs.Common.{◌≡◌, ℕ, ◌≤◌, true, List, length, take, Ok, Result, sym, ap, ◌∙◌, subst}
+use Rattle.std.proofs.Common.{◌≡◌, ℕ, ◌≤◌, true, List, length, take, Ok, ap, ◌∙◌, subst}
 use Rattle.std.proofs.lemmas.List.{length-take-le}
 use Rattle.std.proofs.lemmas.Result.{IfOk-at_ok}
 use Rattle.words.specs.Words.{Bytes}
@@ -7,7 +7,7 @@ use Rattle.language.specs.Files.{then}
 use Rattle.formula.specs.Cells.{lawful, meaning_of}
 use Rattle.formula.specs.Files.{formula_file, formula_language}
 use Rattle.formula.specs.Formats.{formula_bytes}
-use Rattle.formula.specs.Rules.{Means, Reads, ReadsAs}
+use Rattle.formula.specs.Rules.{Means, ReadsAs}
 use Rattle.formula.specs.declared.cell.Cell.{Cell}
 use Rattle.formula.specs.Among.{lawful_front, meaning_front}
 use Rattle.formula.proofs.Formats.{file_bytes}

@@ -1,13 +1,12 @@
 -- The cells of a file, written down, are its bytes. Assumes nothing.
-use Rattle.std.proofs.Common.{◌≡◌, ℕ, ◌+◌, ◌*◌, ◌≤◌, Bool, true, cond, ◌&&◌, eqb, ltb, List, [], ◌∷◌, ◌++◌, length, drop, IfOk, Some, None, Ok, Err, Option, Result, sym, refl, ap, ◌∙◌, zero-add, arith}
+use Rattle.std.proofs.Common.{◌≡◌, ℕ, ◌+◌, ◌&&◌, eqb, ltb, List, [], ◌∷◌, ◌++◌, length, drop, IfOk, Some, None, Ok, Err, Option, sym, refl, ap, ◌∙◌, zero-add, arith}
 use Rattle.std.proofs.lemmas.List.{append-nil, drop_all}
 use Rattle.std.proofs.lemmas.Bool.{and_parts, cond_both, eqb-true, ltb-false}
 use Rattle.std.specs.List.{flat_map}
 use Rattle.words.specs.Headers.{headed}
 use Rattle.words.specs.Words.{word_at, bytes_of, Bytes}
 use Rattle.words.proofs.Runs.{four_run}
-use Rattle.language.specs.Files.{count_of, then, rows}
-use Rattle.language.specs.declared.fault.DataFault.{DataFault}
+use Rattle.language.specs.Files.{count_of, rows}
 use Rattle.language.specs.declared.fault.DataFault.TheVariants.{Length}
 use Rattle.language.proofs.Runs.{made_then, Counted, count_run, Ran, rows_run}
 use Rattle.formula.specs.Files.{binary, decoded, or_rule, cell_place, cell_of, formula_file}

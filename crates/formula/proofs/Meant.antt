@@ -1,7 +1,7 @@
 -- A formula's values and names are those that its rules give. Assumes nothing.
-use Rattle.std.proofs.Common.{◌≡◌, ℕ, zero, suc, ◌+◌, ◌-◌, ◌*◌, ◌<◌, ◌≤◌, min, Bool, true, false, cond, ◌&&◌, ◌||◌, eqb, ltb, List, length, sym, refl, ap, ◌∙◌, subst, ⊎_elim, arith}
+use Rattle.std.proofs.Common.{◌≡◌, ℕ, zero, suc, ◌+◌, ◌*◌, ◌<◌, ◌≤◌, Bool, true, false, cond, ◌&&◌, ◌||◌, eqb, ltb, List, length, sym, refl, ap, ◌∙◌, subst, ⊎_elim, arith}
 use Rattle.std.proofs.lemmas.Bool.{and_parts, cases_eq, cases_lt, cond-true, cond-false, eq-eqb, ne_eqb, eqb-true, lt-ltb, le-ltb, ltb-true, ltb-false, eqb-false, or_cases, or_left, or_right, false≢true}
-use Rattle.language.specs.Meanings.{value_at, word, AtMost}
+use Rattle.language.specs.Meanings.{value_at}
 use Rattle.language.proofs.Largest.{word_at_most, at_most_word}
 use Rattle.formula.specs.Cells.{lawful, ruled, cell_at, step_of, reads_of, applied, value_among, names_among, meaning_of}
 use Rattle.formula.specs.Rules.{IsCell, Tells, Evaluates, constant, variable, sum, difference, product, equal, less, choose, Reaches, itself, first, second, test, taken, otherwise, Means}

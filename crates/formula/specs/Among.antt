@@ -1,13 +1,11 @@
 -- A cell's value and names by those of its operands, among the first n cells. Assumes nothing.
-use Rattle.std.specs.Prelude.{◌≡◌, ℕ, zero, suc, ◌<◌, ◌≤◌, Bool, true, false, cond, ◌&&◌, ◌||◌, List, length, take, ◌==◌, nat_lt, refl}
+use Rattle.std.specs.Prelude.{◌≡◌, ℕ, zero, suc, ◌<◌, ◌≤◌, Bool, true, false, cond, ◌&&◌, List, take, ◌==◌, nat_lt, refl}
 use Rattle.std.proofs.Common.{sym, ap, ◌∙◌, ⊎_elim, arith}
 use Rattle.std.proofs.Math.Path.{fun_ext}
-use Rattle.std.proofs.lemmas.List.{length-take-le, get_or-take}
+use Rattle.std.proofs.lemmas.List.{get_or-take}
 use Rattle.std.proofs.lemmas.Bool.{and_parts, cases_eq, cond-true, cond-false, eq-eqb, ne_eqb, ltb-true}
-use Rattle.language.specs.Files.{every}
-use Rattle.language.specs.Meanings.{Meaning}
 use Rattle.language.proofs.Rows.{every_at, every_same}
-use Rattle.formula.specs.Cells.{lawful, ruled, cell_at, step_of, reads_of, applied, value_among, names_among, meaning_of}
+use Rattle.formula.specs.Cells.{lawful, ruled, cell_at, step_of, reads_of, value_among, names_among, meaning_of}
 use Rattle.formula.specs.declared.cell.Cell.{Cell}
 use Rattle.formula.specs.declared.cell.Cell.TheVariants.{Constant, Variable, Binary, Choose}
 

@@ -5,7 +5,7 @@
 --     value_among, names_among   the same of cell e among the first n
 --     lawful cs n         each of the first n cells keeps the rules
 --     meaning_of cs n      the language of the first n cells
-use Rattle.std.specs.Prelude.{ℕ, zero, suc, ◌+◌, ◌-◌, ◌*◌, Bool, true, false, cond, ◌&&◌, ◌||◌, List, length, ◌==◌, nat_lt, slice_index_or}
+use Rattle.std.specs.Prelude.{ℕ, zero, suc, ◌+◌, ◌-◌, ◌*◌, Bool, true, false, cond, ◌&&◌, ◌||◌, List, ◌==◌, nat_lt, slice_index_or}
 use Rattle.language.specs.Files.{every}
 use Rattle.language.specs.Meanings.{Meaning, value_at, word}
 use Rattle.formula.specs.declared.cell.Operation.{Operation}

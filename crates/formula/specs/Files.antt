@@ -3,7 +3,7 @@
 --     cell_of bs k          cell k of a file, or its fault
 --     formula_file bs       the cells of a file, or its first fault in file order
 --     formula_language bs   the language of a file
-use Rattle.std.specs.Prelude.{ℕ, ◌+◌, ◌*◌, Bool, cond, ◌&&◌, List, length, Some, None, Ok, Err, Option, Result, ◌==◌, nat_lt}
+use Rattle.std.specs.Prelude.{ℕ, ◌+◌, ◌*◌, cond, ◌&&◌, List, length, Some, None, Ok, Err, Option, Result, ◌==◌, nat_lt}
 use Rattle.words.specs.Words.{word_at}
 use Rattle.language.specs.Files.{count_of, then, rows}
 use Rattle.language.specs.Meanings.{Meaning}

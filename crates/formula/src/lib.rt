@@ -1,4 +1,6 @@
 // Formulas: the data language whose expressions are cells, each an operation on cells before it.
+#![tactic(auto)]
+
 mod cell;
 mod cells;
 mod formula;

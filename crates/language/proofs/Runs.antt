@@ -1,6 +1,6 @@
 -- The bytes of a data file by what is read from them. Assumes nothing.
-use Rattle.std.proofs.Common.{◌≡◌, ℕ, zero, suc, ◌+◌, ◌<◌, ◌≤◌, Bool, true, false, cond, ltb, leb, List, [], ◌∷◌, ◌++◌, length, drop, IfOk, Ok, Err, Result, sym, refl, ap, ◌∙◌, append_assoc, add-zero, arith}
-use Rattle.std.proofs.lemmas.List.{append-nil, length-append}
+use Rattle.std.proofs.Common.{◌≡◌, ℕ, zero, suc, ◌+◌, cond, ltb, leb, List, [], ◌∷◌, ◌++◌, length, drop, IfOk, Ok, Err, Result, sym, refl, ap, ◌∙◌, append_assoc, add-zero, arith}
+use Rattle.std.proofs.lemmas.List.{append-nil}
 use Rattle.std.proofs.lemmas.Bool.{cond_both, ltb-false}
 use Rattle.std.specs.List.{flat_map}
 use Rattle.words.specs.Headers.{header_of, headed}

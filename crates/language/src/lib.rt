@@ -1,5 +1,7 @@
 // Data languages: expressions over variables, what each names, and its value under a valuation.
 // Nothing here knows of models, formulas or tables.
+#![tactic(auto)]
+
 mod fault;
 mod file;
 mod questions;

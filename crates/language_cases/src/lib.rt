@@ -1,4 +1,6 @@
 // Data files that are read, and data files that are refused, case by case.
+#![tactic(auto)]
+
 #[cfg(test)]
 mod files;
 #[cfg(test)]

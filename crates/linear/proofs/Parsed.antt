@@ -1,17 +1,14 @@
 -- What is read stands in the file: its words are those of what was read. Assumes nothing.
-use Rattle.std.proofs.Common.{◌≡◌, ℕ, zero, suc, ◌+◌, ◌-◌, ◌*◌, ◌<◌, ◌≤◌, Bool, true, false, cond, ◌&&◌, eqb, ltb, leb, List, [], ◌∷◌, ◌++◌, length, get_or, Some, None, Ok, Err, Option, Result, sym, refl, ap, ◌∙◌, subst, ⊎_elim, append_assoc, arith}
+use Rattle.std.proofs.Common.{◌≡◌, ℕ, zero, suc, ◌+◌, ◌*◌, ◌≤◌, Bool, true, false, cond, eqb, leb, List, [], ◌∷◌, ◌++◌, length, Some, None, Ok, Err, Option, Result, sym, refl, ap, ◌∙◌, subst, arith}
 use Rattle.std.specs.List.{flat_map}
-use Rattle.std.proofs.lemmas.List.{append-nil, length-append, flat_map_more}
-use Rattle.std.proofs.lemmas.Bool.{and_parts, and_from, leb-true, le-leb, eqb-true}
+use Rattle.std.proofs.lemmas.Bool.{and_parts, and_from, leb-true, eqb-true}
 use Rattle.words.specs.Words.{word_at}
-use Rattle.linear.specs.Equations.{Guarded, Acts, Leads, Summand}
-use Rattle.linear.specs.Faults.{at, head}
-use Rattle.linear.specs.Laws.{all, within, few_guard}
-use Rattle.linear.specs.Layout.{counted, guard_words, acts_words, rate_words, entry_words, leads_words, summand_words}
-use Rattle.linear.specs.Reading.{then, past, word_in, words_from, words_in, count_in, list_in, guard_in, acts_in, rate_in, entry_of, also, entries_from, or_no_entries, leads_in, leads_place, summand_in, summand_end, summands_from}
+use Rattle.linear.specs.Equations.{Guarded, Acts, Leads}
+use Rattle.linear.specs.Laws.{within, few_guard}
+use Rattle.linear.specs.Layout.{counted, guard_words, acts_words, rate_words, entry_words, leads_words}
+use Rattle.linear.specs.Reading.{then, word_in, words_from, words_in, count_in, list_in, guard_in, acts_in, rate_in, entry_of, also, entries_from, or_no_entries, leads_in}
 use Rattle.linear.specs.declared.entry.Entry.{Entry}
 use Rattle.linear.specs.declared.entry.Entry.TheVariants.{Reset, Keep, Take}
-use Rattle.linear.specs.declared.fault.Group.{Group}
 use Rattle.linear.specs.declared.fault.Place.{Place}
 use Rattle.linear.specs.declared.fault.LinearFault.{LinearFault}
 use Rattle.linear.specs.declared.fault.LinearFault.TheVariants.{Length, Limit}

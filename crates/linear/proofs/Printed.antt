@@ -1,27 +1,27 @@
 -- The file of a lawful equation reads back as that equation. Assumes nothing.
-use Rattle.std.proofs.Common.{◌≡◌, ℕ, zero, suc, ◌+◌, ◌-◌, ◌*◌, ◌<◌, ◌≤◌, Bool, true, false, cond, ◌&&◌, eqb, ltb, leb, List, [], ◌∷◌, ◌++◌, length, get_or, drop, Some, None, Ok, Err, Option, Result, sym, refl, ap, ◌∙◌, subst, append_assoc, arith}
+use Rattle.std.proofs.Common.{◌≡◌, ℕ, suc, ◌+◌, ◌-◌, ◌*◌, ◌≤◌, Bool, true, cond, ◌&&◌, eqb, ltb, leb, List, [], ◌∷◌, ◌++◌, length, Some, Ok, Err, Option, Result, sym, refl, ap, ◌∙◌, append_assoc, arith}
 use Rattle.std.specs.List.{flat_map}
 use Rattle.std.proofs.lemmas.List.{append-nil, length-append}
 use Rattle.std.proofs.lemmas.Bool.{and_parts, and_from, cond-true, leb-true, le-leb, eqb-true, eq-eqb}
-use Rattle.words.specs.Headers.{header_of, headed}
-use Rattle.words.specs.Words.{word_at, bytes_of, Bytes}
+use Rattle.words.specs.Headers.{header_of}
+use Rattle.words.specs.Words.{word_at, Bytes}
 use Rattle.words.proofs.Headed.{header_rules}
 use Rattle.linear.specs.Equations.{Guarded, Acts, Leads, Summand, Vector, Linear}
 use Rattle.linear.specs.Faults.{at, head}
 use Rattle.linear.specs.Laws.{all, within, fitted, few_guard, few_action, few_delay, limits, named_action, named_delay, named, small_sums, small, lawful}
 use Rattle.linear.specs.Layout.{counted, guard_words, acts_words, rate_words, entry_words, leads_words, summand_words, section_words, head_words, words_of, file_of}
-use Rattle.linear.specs.Reading.{then, past, or_linear_fault, word_in, words_from, words_in, count_in, list_in, guard_in, acts_in, rate_in, entry_of, also, entries_from, or_no_entries, leads_in, summand_in, summand_end, summands_from, section_in, actions_in, delays_in, kept_from, size_rule, value_rule, head_in, table_in, fails_from, named_in, products_in, linear_file}
+use Rattle.linear.specs.Reading.{past, or_linear_fault, word_in, words_from, words_in, count_in, list_in, guard_in, acts_in, rate_in, entry_of, also, entries_from, or_no_entries, leads_in, summand_in, summand_end, summands_from, section_in, kept_from, size_rule, value_rule, head_in, table_in, fails_from, named_in, products_in, linear_file}
 use Rattle.linear.specs.declared.entry.Entry.{Entry}
 use Rattle.linear.specs.declared.entry.Entry.TheVariants.{Reset, Keep, Take}
 use Rattle.linear.specs.declared.fault.Group.{Group}
-use Rattle.linear.specs.declared.fault.Group.TheVariants.{Head, Actions, Delays}
+use Rattle.linear.specs.declared.fault.Group.TheVariants.{Actions, Delays}
 use Rattle.linear.specs.declared.fault.Place.{Place}
 use Rattle.linear.specs.declared.fault.LinearFault.{LinearFault}
 use Rattle.linear.specs.declared.fault.LinearFault.TheVariants.{Length, Limit, Misnamed, Product}
 use Rattle.linear.proofs.Shows.{Shows, shows_at, shows_front, shows_back, shows_room, bytes_show, length_bytes}
 use Rattle.linear.proofs.Steps.{then_ok}
 use Rattle.linear.proofs.Parsed.{length_entries}
-use Rattle.linear.proofs.Wholes.{all_weaker, entered, end_is, keeps_from, sizes_kept, values_kept, action_entered, delay_entered}
+use Rattle.linear.proofs.Wholes.{entered, end_is, keeps_from, sizes_kept, values_kept, action_entered, delay_entered}
 
 module _ (bs : List ℕ) where
   word_read : (q : Place) (p w : ℕ) → p + 2 ≤ length bs → word_at bs p ≡ w → Ok w ≡ word_in bs q p

@@ -1,8 +1,8 @@
 -- Bytes that show certain words from a position on. Assumes nothing.
 --     Shows bs p ws   the words ws stand in bs from p on
-use Rattle.std.proofs.Common.{◌≡◌, ℕ, zero, suc, ◌+◌, ◌-◌, ◌*◌, ◌/◌, ◌%◌, ◌<◌, ◌≤◌, Bool, true, false, ltb, List, [], ◌∷◌, ◌++◌, length, get_or, drop, sym, refl, ap, ◌∙◌, subst, arith}
-use Rattle.std.proofs.lemmas.List.{get_or-drop, drop-drop, drop_more, drop_all, length-drop, length-append}
-use Rattle.std.proofs.lemmas.Bool.{and_parts, and_from, ltb-true, lt-ltb}
+use Rattle.std.proofs.Common.{◌≡◌, ℕ, suc, ◌+◌, ◌*◌, ◌/◌, ◌%◌, ◌<◌, ◌≤◌, true, ltb, List, [], ◌∷◌, ◌++◌, length, get_or, drop, sym, refl, ap, ◌∙◌, subst, arith}
+use Rattle.std.proofs.lemmas.List.{get_or-drop, drop-drop, drop_more, drop_all, length-drop}
+use Rattle.std.proofs.lemmas.Bool.{and_from, lt-ltb}
 use Rattle.words.specs.Words.{word_at, bytes_of, Bytes}
 use Rattle.linear.specs.Laws.{all}
 use Rattle.linear.specs.Reading.{past}

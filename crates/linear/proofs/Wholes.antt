@@ -1,19 +1,19 @@
 -- Whole files that were read: their words are those of the equation, and it keeps the laws. Assumes nothing.
-use Rattle.std.proofs.Common.{◌≡◌, ℕ, zero, suc, ◌+◌, ◌-◌, ◌*◌, ◌<◌, ◌≤◌, Bool, true, false, cond, ◌&&◌, eqb, ltb, leb, List, [], ◌∷◌, ◌++◌, length, get_or, drop, Ok, Err, Result, sym, refl, ap, ◌∙◌, subst, append_assoc, add-one, arith}
+use Rattle.std.proofs.Common.{◌≡◌, ℕ, zero, suc, ◌+◌, ◌-◌, ◌*◌, Bool, true, ◌&&◌, eqb, ltb, leb, List, [], ◌∷◌, ◌++◌, length, get_or, Ok, Err, Result, sym, refl, ap, ◌∙◌, subst, append_assoc, add-one, arith}
 use Rattle.std.specs.List.{flat_map}
 use Rattle.std.proofs.lemmas.List.{append-nil, length-append}
-use Rattle.std.proofs.lemmas.Bool.{and_parts, and_from, leb-true, le-leb, eqb-true, eq-eqb}
+use Rattle.std.proofs.lemmas.Bool.{and_parts, and_from, leb-true, le-leb, eqb-true}
 use Rattle.words.specs.Headers.{header_of, headed}
-use Rattle.words.specs.Words.{word_at, bytes_of, Bytes}
+use Rattle.words.specs.Words.{Bytes}
 use Rattle.words.specs.declared.header.HeaderFault.{HeaderFault}
 use Rattle.words.proofs.Headed.{header_rules}
-use Rattle.linear.specs.Equations.{Guarded, Acts, Leads, Summand, Vector, Linear}
+use Rattle.linear.specs.Equations.{Acts, Leads, Summand, Vector, Linear}
 use Rattle.linear.specs.Faults.{at, head}
-use Rattle.linear.specs.Laws.{all, within, fitted, few_guard, few_action, few_delay, limits, named_guard, named_leads, named_acts, named_action, named_delay, named, small_sums, small, lawful}
-use Rattle.linear.specs.Layout.{counted, guard_words, acts_words, rate_words, leads_words, entry_words, summand_words, section_words, head_words, words_of, file_of}
-use Rattle.linear.specs.Reading.{then, past, or_linear_fault, word_in, count_in, guard_in, acts_in, rate_in, leads_in, summand_in, summand_end, summands_from, section_in, actions_in, delays_in, kept_from, size_rule, value_rule, head_in, table_in, fails_from, named_in, products_in, linear_file}
+use Rattle.linear.specs.Laws.{all, within, fitted, few_guard, few_delay, limits, named_guard, named_leads, named_acts, named_action, named_delay, named, small_sums, small, lawful}
+use Rattle.linear.specs.Layout.{counted, guard_words, acts_words, rate_words, leads_words, summand_words, section_words, head_words, words_of, file_of}
+use Rattle.linear.specs.Reading.{past, or_linear_fault, word_in, count_in, guard_in, acts_in, rate_in, leads_in, summand_in, summand_end, summands_from, section_in, actions_in, delays_in, kept_from, size_rule, value_rule, head_in, table_in, fails_from, named_in, products_in, linear_file}
 use Rattle.linear.specs.declared.fault.Group.{Group}
-use Rattle.linear.specs.declared.fault.Group.TheVariants.{Head, Actions, Delays}
+use Rattle.linear.specs.declared.fault.Group.TheVariants.{Actions, Delays}
 use Rattle.linear.specs.declared.fault.Place.{Place}
 use Rattle.linear.specs.declared.fault.LinearFault.{LinearFault}
 use Rattle.linear.specs.declared.fault.LinearFault.TheVariants.{Length, Limit, Misnamed, Product}

@@ -4,10 +4,9 @@
 --     small E      the sizes of each summand's sum variables multiply to at most 65,536
 --     lawful E     all of these
 --     IsFile bs    the bytes are the file of a lawful equation
-use Rattle.std.specs.Prelude.{◌≡◌, ℕ, zero, suc, ◌+◌, ◌*◌, Bool, true, false, not, ◌&&◌, ◌||◌, ltb, List, [], ◌∷◌, ◌++◌, length, ◌==◌, nat_le, nat_lt, slice_index_or}
-use Rattle.linear.specs.Equations.{Guarded, Acts, Leads, Summand, Vector, Linear}
+use Rattle.std.specs.Prelude.{◌≡◌, ℕ, ◌+◌, ◌*◌, Bool, true, false, not, ◌&&◌, ◌||◌, ltb, List, [], ◌∷◌, length, ◌==◌, nat_le, nat_lt, slice_index_or}
+use Rattle.linear.specs.Equations.{Guarded, Acts, Leads, Summand, Linear}
 use Rattle.linear.specs.Layout.{file_of}
-use Rattle.linear.specs.declared.entry.Entry.{Entry}
 
 abbrev pub all : {X : Type 0} → (X → Bool) → List X → Bool
 all p [] = true

@@ -7,7 +7,7 @@ use Rattle.std.specs.Prelude.{ℕ, List, [], ◌∷◌, ◌++◌, length}
 use Rattle.std.specs.List.{flat_map}
 use Rattle.words.specs.Headers.{headed}
 use Rattle.words.specs.Words.{bytes_of}
-use Rattle.linear.specs.Equations.{Guarded, Acts, Leads, Summand, Vector, Linear}
+use Rattle.linear.specs.Equations.{Guarded, Acts, Leads, Summand, Linear}
 use Rattle.linear.specs.declared.entry.Entry.{Entry}
 use Rattle.linear.specs.declared.entry.Entry.TheVariants.{Reset, Keep, Take}
 

@@ -6,7 +6,7 @@
 --     section_in          a count and its summands, and where they end
 --     table_in            the whole file: versions, lengths and limits
 --     linear_file         the equation of a file, or its fault: misnamed things over all come next, then products
-use Rattle.std.specs.Prelude.{◌≡◌, ℕ, zero, suc, ◌+◌, ◌-◌, ◌*◌, Bool, true, false, cond, not, ◌&&◌, List, [], ◌∷◌, ◌++◌, length, Some, None, Ok, Err, Option, Result, ◌==◌, nat_le, nat_lt, slice_index}
+use Rattle.std.specs.Prelude.{◌≡◌, ℕ, zero, suc, ◌+◌, ◌-◌, ◌*◌, Bool, cond, List, [], ◌∷◌, ◌++◌, length, Some, None, Ok, Err, Option, Result, ◌==◌, nat_le, nat_lt, slice_index}
 use Rattle.words.specs.Headers.{header_of}
 use Rattle.words.specs.Words.{word_at}
 use Rattle.words.specs.declared.header.HeaderFault.{HeaderFault}
@@ -18,7 +18,7 @@ use Rattle.linear.specs.Layout.{guard_words, acts_words, rate_words}
 use Rattle.linear.specs.declared.entry.Entry.{Entry}
 use Rattle.linear.specs.declared.entry.Entry.TheVariants.{Reset, Keep, Take}
 use Rattle.linear.specs.declared.fault.Group.{Group}
-use Rattle.linear.specs.declared.fault.Group.TheVariants.{Head, Actions, Delays}
+use Rattle.linear.specs.declared.fault.Group.TheVariants.{Actions, Delays}
 use Rattle.linear.specs.declared.fault.Place.{Place}
 use Rattle.linear.specs.declared.fault.LinearFault.{LinearFault}
 use Rattle.linear.specs.declared.fault.LinearFault.TheVariants.{Version, Length, Limit, Misnamed, Product}

@@ -1,6 +1,6 @@
 -- The lists that the tables of an equation hold: the first so many of each. Assumes nothing.
 use Rattle.std.specs.Prelude.{ℕ, List, map, take, Some, None, Option}
-use Rattle.linear.specs.Equations.{Guarded, Acts, Leads, Summand, Vector, Linear}
+use Rattle.linear.specs.Equations.{Guarded, Acts, Leads, Summand, Linear}
 use Rattle.linear.specs.declared.entry.Entry.{Entry}
 use Rattle.linear.specs.declared.list.WordList.{WordList}
 use Rattle.linear.specs.declared.entries.EntryList.{EntryList}

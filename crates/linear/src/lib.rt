@@ -1,4 +1,6 @@
 // Linear equations: their type, lawful by construction, and the definition of their files.
+#![tactic(auto)]
+
 mod entering;
 mod entries;
 mod entry;

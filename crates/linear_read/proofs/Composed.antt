@@ -1,19 +1,17 @@
 -- The parts of a summand, from the words and lists that they are read as. Assumes nothing.
-use Rattle.std.proofs.Common.{◌≡◌, ℕ, ◌+◌, ◌*◌, ◌≤◌, Bool, true, cond, eqb, List, [], ◌∷◌, ◌++◌, map, length, take, Ok, Err, Result, sym, refl, ap, ◌∙◌, subst, arith, length-append}
+use Rattle.std.proofs.Common.{◌≡◌, ℕ, ◌+◌, ◌*◌, ◌≤◌, cond, eqb, List, map, length, take, Ok, Err, Result, sym, refl, ap, ◌∙◌, subst, arith, length-append}
 use Rattle.std.proofs.lemmas.List.{length-take-le, length-map}
 use Rattle.std.proofs.lemmas.Bool.{cond-true, cond-false, eq-eqb, ne_eqb}
 use Rattle.words.specs.Headers.{header_of}
-use Rattle.words.proofs.Headed.{header_rules}
 use Rattle.words.specs.Words.{Bytes}
 use Rattle.linear.specs.Equations.{Guarded, Acts, Summand, Vector, Linear}
 use Rattle.linear.specs.Layout.{guard_words, acts_words}
-use Rattle.linear.specs.Reading.{then, past, word_in, list_in, guard_in, acts_in, or_linear_fault, head_in, actions_in, delays_in, table_in, named_in, products_in, linear_file, answer_of, Leaves}
+use Rattle.linear.specs.Reading.{past, word_in, list_in, guard_in, acts_in, or_linear_fault, head_in, actions_in, delays_in, table_in, named_in, products_in, linear_file, answer_of, Leaves}
 use Rattle.linear.specs.declared.fault.Place.{Place}
 use Rattle.linear.specs.declared.fault.LinearFault.{LinearFault}
 use Rattle.linear.specs.declared.fault.LinearFault.TheVariants.{Length}
 use Rattle.linear.specs.Faults.{head}
-use Rattle.linear.specs.Laws.{lawful, IsFile}
-use Rattle.linear.specs.Layout.{file_of}
+use Rattle.linear.specs.Laws.{IsFile}
 use Rattle.linear.proofs.Wholes.{read_whole}
 use Rattle.linear.proofs.Printed.{written_reads}
 use Rattle.words.specs.Headers.{Iff}

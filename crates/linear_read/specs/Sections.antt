@@ -1,6 +1,6 @@
 -- What the parts of a file that were read stand for. Assumes nothing.
 use Rattle.std.specs.Prelude.{ℕ, Bool, List, map, take}
-use Rattle.linear.specs.Equations.{Acts, Summand, Vector, Linear}
+use Rattle.linear.specs.Equations.{Acts, Summand, Vector}
 use Rattle.linear.specs.Laws.{named_action, named_delay, small_sums}
 use Rattle.linear.specs.Reading.{size_rule, value_rule}
 use Rattle.linear.specs.Tables.{list_of, action_of, delay_of}

@@ -1,4 +1,6 @@
 // Linear equations from their files.
+#![tactic(auto)]
+
 mod checks;
 mod entries;
 mod head;

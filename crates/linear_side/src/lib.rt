@@ -1,1 +1,2 @@
 // A linear equation under a data language, as a Markov system.
+#![tactic(auto)]

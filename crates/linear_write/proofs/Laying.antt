@@ -1,8 +1,8 @@
 -- Words laid one part after another. Assumes nothing.
-use Rattle.std.proofs.Common.{◌≡◌, ℕ, zero, suc, ◌+◌, ◌-◌, ◌*◌, ◌/◌, ◌%◌, ◌<◌, ◌≤◌, ◌≢◌, List, [], ◌∷◌, ◌++◌, map, length, get_or, take, drop, set, Some, None, Option, sym, refl, ap, ◌∙◌, subst, ⊎_elim, arith}
+use Rattle.std.proofs.Common.{◌≡◌, ℕ, zero, suc, ◌+◌, ◌*◌, ◌/◌, ◌%◌, ◌<◌, ◌≤◌, ◌≢◌, List, [], ◌∷◌, ◌++◌, map, length, get_or, take, drop, set, Some, None, sym, refl, ap, ◌∙◌, ⊎_elim, arith}
 use Rattle.std.proofs.lemmas.Bool.{cases_lt}
 use Rattle.std.specs.List.{flat_map, slice_get}
-use Rattle.std.proofs.lemmas.List.{append-nil, append_assoc, length-append, length-set, set_comm, set-set, take_more, take_more_set, take-set, take-set-le, drop-set-lt, take-append-drop, length-take-le, length-map, get_or_append_left, get_or_past, take_at}
+use Rattle.std.proofs.lemmas.List.{append-nil, append_assoc, length-append, length-set, set_comm, set-set, take_more, take_more_set, drop-set-lt, take-append-drop, length-take-le, length-map, get_or_append_left, get_or_past, take_at}
 use Rattle.words.specs.Headers.{version, four_bytes, headed}
 use Rattle.words.specs.Put.{put_word}
 use Rattle.words.specs.Words.{bytes_of, Bytes}

@@ -1,4 +1,6 @@
 // Linear equations to their files.
+#![tactic(auto)]
+
 mod fault;
 mod lengths;
 mod parts;

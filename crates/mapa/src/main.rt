@@ -1,4 +1,6 @@
 // Looks at the product's files, one on standard input: `mapa data formula|table`, `mapa model`.
+#![tactic(auto)]
+
 use anyhow::anyhow;
 use report::{DataLanguage, Verb, run};
 use std::env;

@@ -1,4 +1,6 @@
 // Every verb of `mapa` on built-in examples, so that one run shows them all.
+#![tactic(auto)]
+
 use report::{DataLanguage, Verb, run};
 use std::io::Write;
 

@@ -5,7 +5,7 @@ use Rattle.model_rules.specs.declared.shape.Shape.{Shape}
 use Rattle.model_rules.specs.declared.shape.Shape.TheVariants as shape
 use Rattle.model.specs.Flat.{Flat}
 use Rattle.model.specs.Made.{Fits}
-use Rattle.model.specs.Nodes.{call_arity, action_arity, arguments_from}
+use Rattle.model.specs.Nodes.{action_arity, arguments_from}
 use Rattle.model.specs.Trees.{Tree, call, when, choice, sum, action, delay, planted, grown, tree_of}
 
 some_same : {X : Type 0} {x y : X} → ◌≡◌ {A = Option X} (Some x) (Some y) → x ≡ y

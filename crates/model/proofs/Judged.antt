@@ -1,5 +1,5 @@
 -- A file is accepted just where it is well formed. Assumes that each byte is below 256.
-use Rattle.std.proofs.Common.{◌≡◌, ℕ, ◌<◌, Bool, true, false, List, get_or, drop, is_ok, Ok, Err, Result, sym, refl, ap, ◌∙◌}
+use Rattle.std.proofs.Common.{◌≡◌, ℕ, ◌<◌, true, List, get_or, is_ok, Ok, Err, Result, refl, ap, ◌∙◌}
 use Rattle.std.proofs.lemmas.Bool.{false≢true}
 use Rattle.words.specs.Headers.{header_of, Iff}
 use Rattle.words.specs.declared.header.HeaderFault.{HeaderFault}

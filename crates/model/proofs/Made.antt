@@ -1,20 +1,20 @@
 -- The flat model of a well-formed file has what is supposed of a model. Assumes nothing.
-use Rattle.std.proofs.Common.{◌≡◌, ℕ, zero, suc, ◌+◌, ◌-◌, ◌<◌, ◌≤◌, min, Bool, true, false, cond, eqb, ◌⊎◌, List, [], ◌∷◌, length, get_or, take, drop, Some, None, Option, sym, refl, ap, ◌∙◌, subst, inl, inr, ⊎_elim, arith}
+use Rattle.std.proofs.Common.{◌≡◌, ℕ, zero, suc, ◌+◌, ◌<◌, ◌≤◌, true, false, cond, List, [], ◌∷◌, length, get_or, take, drop, Some, None, Option, sym, refl, ap, ◌∙◌, subst, ⊎_elim, arith}
 use Rattle.std.specs.List.{slice_get}
 use Rattle.std.proofs.lemmas.List.{length-take-le, length-drop}
 use Rattle.std.proofs.lemmas.Bool.{cases_lt, cases_eq, cases_Bool, eq-eqb, eqb-true, false≢true}
 use Rattle.model_file.specs.declared.layout.Layout.{Layout}
-use Rattle.model_file.specs.Fields.{variable_count, size_of, process_count, first_of, number_of, body_of, start_of, value_of, action_count, arity_of, node_count, argument_count, argument_of}
+use Rattle.model_file.specs.Fields.{variable_count, size_of, process_count, first_of, number_of, start_of, value_of, action_count, arity_of, node_count, argument_count, argument_of}
 use Rattle.model_file.specs.Layouts.{layout_of}
 use Rattle.model_file.specs.Limits.{Between, Run}
 use Rattle.model_rules.specs.declared.shape.Shape.{Shape}
 use Rattle.model_rules.specs.declared.shape.Shape.TheVariants.{Call, Condition, Choice, Sum, Action, Delay}
-use Rattle.model_rules.specs.Sound.{IsNode, Names, Bound, Binder, parameter, node, Binds}
+use Rattle.model_rules.specs.Sound.{IsNode, Names, Bound, parameter, node}
 use Rattle.model_rules.proofs.Decoded.{shape_is}
 use Rattle.model.specs.declared.node.Process.{Process}
-use Rattle.model.specs.Flat.{numbered, or_delay, process_of, node_of, flat}
+use Rattle.model.specs.Flat.{or_delay, process_of, node_of, flat}
 use Rattle.model.specs.Made.{bound_by, owner_from, owner_of, process_in, IsParameter, ChildIn, ArgumentsIn, Fits, Made}
-use Rattle.model.specs.Nodes.{no_process, call_arity, action_arity, arguments_from}
+use Rattle.model.specs.Nodes.{no_process, call_arity, action_arity}
 use Rattle.model.specs.WellFormed.{WellFormed}
 use Rattle.model.proofs.Grown.{tree_is}
 use Rattle.model.proofs.Numbered.{numbered_length, numbered_at, numbered_nth, numbered_none}

@@ -1,21 +1,20 @@
 -- Writing down the flat model of a well-formed file gives the file again. Assumes that each byte is below 256.
-use Rattle.std.proofs.Common.{◌≡◌, ℕ, ◌+◌, ◌*◌, ◌<◌, ◌≤◌, List, [], ◌∷◌, ◌++◌, length, get_or, take, drop, Some, None, sym, refl, ap, ◌∙◌, append-nil, arith}
+use Rattle.std.proofs.Common.{◌≡◌, ℕ, ◌+◌, ◌*◌, ◌<◌, ◌≤◌, List, [], ◌∷◌, ◌++◌, length, get_or, take, drop, sym, refl, ap, ◌∙◌, append-nil, arith}
 use Rattle.std.specs.List.{flat_map}
 use Rattle.std.proofs.lemmas.List.{drop_all, drop-drop}
 use Rattle.words.specs.Words.{word_at, bytes_of}
 use Rattle.words.specs.Headers.{headed}
 use Rattle.model_file.specs.declared.layout.Layout.{Layout}
-use Rattle.model_file.specs.Fields.{variable_count, size_of, process_count, first_of, number_of, body_of, start_of, value_of, action_count, arity_of, node_count, argument_count, argument_of}
-use Rattle.model_file.specs.Layouts.{layout_of, process_at, node_at, argument_at, end_at}
+use Rattle.model_file.specs.Fields.{variable_count, size_of, process_count, number_of, start_of, value_of, action_count, arity_of, node_count, argument_count, argument_of}
+use Rattle.model_file.specs.Layouts.{layout_of, process_at, node_at, argument_at}
 use Rattle.model_file.specs.Limits.{Limits}
 use Rattle.model_file.proofs.Located.{Laid, laid}
 use Rattle.model_rules.specs.declared.shape.Shape.{Shape}
-use Rattle.model_rules.specs.Shapes.{shape_at, fields_of}
+use Rattle.model_rules.specs.Shapes.{fields_of}
 use Rattle.model_rules.specs.Sound.{IsNode, node_words}
 use Rattle.model_rules.proofs.Decoded.{shape_is}
-use Rattle.model.specs.declared.node.Process.{Process}
 use Rattle.model.specs.File.{process_words, words_of, file_of}
-use Rattle.model.specs.Flat.{Flat, numbered, or_delay, process_of, node_of, flat_at, flat}
+use Rattle.model.specs.Flat.{numbered, or_delay, process_of, node_of, flat_at, flat}
 use Rattle.model.specs.WellFormed.{WellFormed}
 use Rattle.model.proofs.Bytes.{bytes_append, bytes_take, bytes_drop, joined_single, words_from, words_there, section}
 use Rattle.model.proofs.Numbered.{numbered_length}

@@ -1,7 +1,7 @@
 -- Nodes as they are handed out, with their arguments.
 --     node_in g n        node n of a flat model; none from the number of nodes up
 --     node_value node    what a node that was handed out holds: its arguments as bytes
-use Rattle.std.specs.Prelude.{ℕ, ◌+◌, ◌*◌, List, take, drop, Some, None, Option, slice_index, slice_index_or}
+use Rattle.std.specs.Prelude.{ℕ, ◌*◌, List, take, drop, Some, None, Option, slice_index, slice_index_or}
 use Rattle.std.specs.List.{slice_get}
 use Rattle.model_file.specs.declared.layout.Layout.{Layout}
 use Rattle.model_file.specs.Fields.{number_of, arity_of}

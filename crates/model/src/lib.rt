@@ -1,4 +1,6 @@
 // Model files: a draft of bytes, accepted into a model or refused, and what a model has.
+#![tactic(auto)]
+
 mod model;
 mod node;
 

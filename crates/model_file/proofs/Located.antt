@@ -1,5 +1,5 @@
 -- The layout by its counts, one section after another. Assumes nothing.
-use Rattle.std.proofs.Common.{◌≡◌, ℕ, ◌+◌, ◌*◌, List, sym, refl, ap, ◌∙◌}
+use Rattle.std.proofs.Common.{◌≡◌, ℕ, ◌+◌, ◌*◌, List, refl}
 use Rattle.words.specs.Words.{word_at}
 use Rattle.model_file.specs.declared.layout.Layout.{Layout}
 use Rattle.model_file.specs.Layouts.{after, processes_at, start_at, actions_at, nodes_at, arguments_at, layout_of}

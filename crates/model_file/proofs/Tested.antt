@@ -1,5 +1,5 @@
 -- The sections have no fault just where the file is within its limits. Assumes nothing.
-use Rattle.std.proofs.Common.{◌≡◌, ℕ, zero, suc, ◌+◌, ◌*◌, ◌<◌, ◌≤◌, Bool, true, false, cond, ◌&&◌, eqb, ltb, leb, ◌⊎◌, List, length, drop, Ok, Err, Result, sym, refl, ap, ◌∙◌, inl, inr, ⊎_elim, arith}
+use Rattle.std.proofs.Common.{◌≡◌, ℕ, ◌+◌, ◌*◌, ◌<◌, ◌≤◌, Bool, true, cond, eqb, ltb, leb, List, length, drop, Ok, Err, Result, sym, refl, ap, ◌∙◌, ⊎_elim, arith}
 use Rattle.std.proofs.lemmas.Bool.{cases_eq, and_parts, and_from, leb-true, le-leb, ltb-true, lt-ltb, le-ltb, eqb-true, eq-eqb}
 use Rattle.std.proofs.lemmas.Bool.Decides.{nat_tests}
 use Rattle.words.specs.Words.{word_at}
@@ -12,9 +12,9 @@ use Rattle.model_file.specs.declared.part.Part.TheVariants.{Size, Process, Value
 use Rattle.model_file.specs.Faults.{and_then, or_fault}
 use Rattle.model_file.specs.Fields.{variable_count, size_of, process_count, first_of, number_of, start_of, value_of, action_count, arity_of, node_count, argument_count}
 use Rattle.model_file.specs.Layouts.{layout_of, size_at, end_at}
-use Rattle.model_file.specs.Limits.{Between, Run, Limits, InLimits}
-use Rattle.model_file.specs.Sections.{keeps, run_fits, records_fault, section_fault, start_fault, sections_fault, sectioned}
-use Rattle.model_file.proofs.Kept.{and_then_ok, and_then_made, unless_ok, unless_made, when_ok, when_made, KeptFrom, Kept, records_kept, records_made, section_kept, section_made}
+use Rattle.model_file.specs.Limits.{Run, Limits, InLimits}
+use Rattle.model_file.specs.Sections.{run_fits, records_fault, section_fault, start_fault, sections_fault, sectioned}
+use Rattle.model_file.proofs.Kept.{and_then_ok, and_then_made, unless_ok, unless_made, when_ok, when_made, KeptFrom, records_kept, records_made, section_kept, section_made}
 use Rattle.model_file.proofs.Located.{Laid, laid}
 
 pub run_kept : (total first number : ℕ) → run_fits total first number ≡ true → Run total first number

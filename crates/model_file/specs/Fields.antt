@@ -2,7 +2,7 @@
 use Rattle.std.specs.Prelude.{ℕ, ◌+◌, List}
 use Rattle.words.specs.Words.{word_at}
 use Rattle.model_file.specs.declared.layout.Layout.{Layout}
-use Rattle.model_file.specs.Layouts.{size_at, process_at, value_at, arity_at, node_at, argument_at}
+use Rattle.model_file.specs.Layouts.{size_at, process_at, value_at, arity_at, argument_at}
 
 module _ (bs : List ℕ) where
   abbrev pub variable_count : ℕ

@@ -3,7 +3,7 @@
 --     keeps bs r p i                            record i, which begins at p, is within its limits
 --     record_fault, records_fault, section_fault, start_fault
 --     sectioned bs                              the bytes are the header and the six sections, or the first fault
-use Rattle.std.specs.Prelude.{ℕ, zero, suc, ◌+◌, ◌*◌, Bool, true, cond, not, ◌&&◌, List, length, Ok, Err, Result, ◌==◌, nat_le, nat_lt}
+use Rattle.std.specs.Prelude.{ℕ, zero, suc, ◌+◌, ◌*◌, Bool, true, cond, ◌&&◌, List, length, Ok, Err, Result, ◌==◌, nat_le, nat_lt}
 use Rattle.words.specs.Words.{word_at}
 use Rattle.words.specs.Headers.{header_of}
 use Rattle.model_file.specs.declared.fault.ModelFault.{ModelFault}

@@ -1,4 +1,6 @@
 // A model file's six sections in file order: where each begins, and the first fault in it.
+#![tactic(auto)]
+
 mod fault;
 mod layout;
 mod part;

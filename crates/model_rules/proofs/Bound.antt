@@ -1,5 +1,5 @@
 -- A variable is bound once just where the tally says so. Assumes nothing.
-use Rattle.std.proofs.Common.{◌≡◌, ℕ, ◌+◌, ◌<◌, ◌≤◌, Bool, true, false, cond, ◌&&◌, eqb, ltb, leb, ◌⊎◌, List, Some, None, Option, sym, refl, ap, ◌∙◌, subst, inl, inr, ⊎_elim, arith}
+use Rattle.std.proofs.Common.{◌≡◌, ℕ, ◌+◌, ◌<◌, ◌≤◌, true, ◌&&◌, ltb, leb, List, Some, None, Option, sym, refl, ap, ◌∙◌, ⊎_elim, arith}
 use Rattle.std.proofs.lemmas.Bool.{cases_eq, eqb-true, eq-eqb}
 use Rattle.std.proofs.lemmas.Bool.Decides.{nat_tests}
 use Rattle.model_file.specs.declared.layout.Layout.{Layout}
@@ -8,9 +8,9 @@ use Rattle.model_rules.specs.declared.shape.Shape.{Shape}
 use Rattle.model_rules.specs.declared.shape.Shape.TheVariants.{Call, Condition, Choice, Sum, Action, Delay}
 use Rattle.model_rules.specs.declared.tally.Tally.TheVariants.{Parameters, Binders}
 use Rattle.model_rules.specs.Shapes.{shape_at}
-use Rattle.model_rules.specs.Sound.{Once, Binder, parameter, node, IsNode, Bound, Binds}
+use Rattle.model_rules.specs.Sound.{Once, Binder, parameter, node, Bound, Binds}
 use Rattle.model_rules.specs.Tallies.{one, binders, share, total, variable_once}
-use Rattle.model_rules.proofs.Counts.{one_given, one_other, one_is, total_zero, total_none, Single, total_one, total_single}
+use Rattle.model_rules.proofs.Counts.{one_given, one_is, total_zero, total_none, Single, total_one, total_single}
 use Rattle.model_rules.proofs.Decoded.{is_node, shape_is}
 
 parameter_same : {i j : ℕ} → parameter i ≡ parameter j → i ≡ j

@@ -1,5 +1,5 @@
 -- The decoder and the table of the format agree. Assumes nothing.
-use Rattle.std.proofs.Common.{◌≡◌, ℕ, ◌+◌, ◌<◌, Bool, true, false, cond, ◌&&◌, eqb, List, [], ◌∷◌, Some, None, Option, sym, refl, ap, ◌∙◌, arith}
+use Rattle.std.proofs.Common.{◌≡◌, ℕ, ◌+◌, ◌<◌, List, Some, arith}
 use Rattle.std.proofs.lemmas.Bool.Decides.{nat_tests}
 use Rattle.words.specs.Words.{word_at}
 use Rattle.model_file.specs.declared.layout.Layout.{Layout}
@@ -7,7 +7,7 @@ use Rattle.model_file.specs.Fields.{node_count}
 use Rattle.model_file.specs.Layouts.{node_at}
 use Rattle.model_rules.specs.declared.shape.Shape.{Shape}
 use Rattle.model_rules.specs.declared.shape.Shape.TheVariants.{Call, Condition, Choice, Sum, Action, Delay}
-use Rattle.model_rules.specs.Shapes.{zeros, given, shape_of, shape_at, six, fields_of}
+use Rattle.model_rules.specs.Shapes.{shape_of, shape_at, six, fields_of}
 use Rattle.model_rules.specs.Sound.{IsNode}
 
 module _ (k a b c d e : ℕ) where

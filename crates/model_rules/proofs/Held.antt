@@ -1,8 +1,7 @@
 -- There is no fault just where each rule holds at each of its records. Assumes nothing.
-use Rattle.std.proofs.Common.{◌≡◌, ℕ, zero, suc, ◌+◌, ◌<◌, ◌≤◌, Bool, true, List, Ok, Err, sym, refl, ap, ◌∙◌, ⊎_elim, arith}
+use Rattle.std.proofs.Common.{◌≡◌, ℕ, zero, suc, ◌+◌, ◌<◌, ◌≤◌, true, List, Ok, refl, ap, ◌∙◌, ⊎_elim, arith}
 use Rattle.std.proofs.lemmas.Bool.{cases_lt}
 use Rattle.model_file.specs.declared.layout.Layout.{Layout}
-use Rattle.model_file.specs.Faults.{and_then}
 use Rattle.model_file.specs.Fields.{variable_count, process_count, node_count}
 use Rattle.model_file.proofs.Kept.{and_then_ok, and_then_made, when_ok, when_made}
 use Rattle.model_rules.specs.declared.rules.Rule.{Rule}

@@ -1,13 +1,13 @@
 -- Calls, children of actions and delays, and resting places, by their tests. Assumes nothing.
-use Rattle.std.proofs.Common.{◌≡◌, ℕ, ◌+◌, ◌<◌, ◌≤◌, Bool, true, false, cond, not, ◌&&◌, ◌||◌, eqb, ltb, ◌⊎◌, List, Some, None, Option, sym, refl, ap, ◌∙◌, inl, inr, ⊎_elim, arith}
-use Rattle.std.proofs.lemmas.Bool.{cases_eq, cases_Bool, ltb-true, lt-ltb, or_cases, or_left, or_right, and_parts, and_from, not-true, not_from_false, false≢true, both_ways}
+use Rattle.std.proofs.Common.{◌≡◌, ℕ, ◌<◌, Bool, true, false, cond, not, ◌&&◌, List, Some, None, Option, sym, refl, ap, ◌∙◌, inl, inr, ⊎_elim, arith}
+use Rattle.std.proofs.lemmas.Bool.{cases_Bool, ltb-true, lt-ltb, or_cases, or_left, or_right, and_parts, and_from, not-true, not_from_false, false≢true, both_ways}
 use Rattle.model_file.specs.declared.layout.Layout.{Layout}
 use Rattle.model_file.specs.Fields.{process_count, body_of, node_count}
 use Rattle.model_rules.specs.declared.shape.Shape.{Shape}
 use Rattle.model_rules.specs.declared.shape.Shape.TheVariants.{Call, Condition, Choice, Sum, Action, Delay}
 use Rattle.model_rules.specs.declared.tally.Tally.TheVariants.{Bodies, Movers}
 use Rattle.model_rules.specs.Shapes.{shape_at}
-use Rattle.model_rules.specs.Sound.{IsNode, IsBody, LeadsTo, Moved, IsCall, Resting}
+use Rattle.model_rules.specs.Sound.{IsBody, LeadsTo, Moved, IsCall, Resting}
 use Rattle.model_rules.specs.Tallies.{movers, share, total, is_call, moved, call_placed, resting}
 use Rattle.model_rules.specs.Tallies as tallies
 use Rattle.model_rules.proofs.Counts.{one_given, one_is, total_some, total_least}

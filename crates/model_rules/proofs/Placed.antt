@@ -1,12 +1,12 @@
 -- A node is placed once just where the tally says so. Assumes nothing.
-use Rattle.std.proofs.Common.{◌≡◌, ℕ, ◌+◌, ◌<◌, ◌≤◌, Bool, true, false, cond, eqb, ◌⊎◌, List, [], ◌∷◌, length, get_or, Some, None, Option, sym, refl, ap, ◌∙◌, subst, inl, inr, ⊎_elim, arith}
+use Rattle.std.proofs.Common.{◌≡◌, ℕ, ◌+◌, ◌<◌, true, List, Some, None, Option, sym, refl, ap, ◌∙◌, subst, ⊎_elim, arith}
 use Rattle.std.proofs.lemmas.Bool.{cases_eq, eqb-true, eq-eqb}
 use Rattle.model_file.specs.declared.layout.Layout.{Layout}
 use Rattle.model_file.specs.Fields.{process_count, body_of, node_count}
 use Rattle.model_rules.specs.declared.shape.Shape.{Shape}
 use Rattle.model_rules.specs.declared.tally.Tally.TheVariants.{Bodies, Children}
 use Rattle.model_rules.specs.Shapes.{shape_at, children_of}
-use Rattle.model_rules.specs.Sound.{Once, Place, body, child, IsNode, Stands}
+use Rattle.model_rules.specs.Sound.{Once, Place, body, child, Stands}
 use Rattle.model_rules.specs.Tallies.{occurs, children, share, total, node_once}
 use Rattle.model_rules.proofs.Counts.{one_given, one_other, one_is, total_zero, total_none, Single, total_one, total_single, At, occurs_zero, occurs_none, occurs_one, occurs_single}
 use Rattle.model_rules.proofs.Decoded.{is_node, shape_is}

@@ -1,16 +1,16 @@
 -- The ways down are within their limits just where the test says so.
 -- Assumes of the file what the other rules say, and that sizes are positive.
-use Rattle.std.proofs.Common.{◌≡◌, ℕ, zero, suc, ◌+◌, ◌-◌, ◌*◌, ◌<◌, ◌≤◌, Bool, true, false, cond, ◌&&◌, leb, ◌⊎◌, List, length, get_or, Some, None, Option, sym, refl, ap, ◌∙◌, subst, inl, inr, ⊎_elim, mul-le-mul_left, mul-one, add-one, arith}
-use Rattle.std.proofs.lemmas.Bool.{and_parts, and_from, leb-true, le-leb, cases_Bool}
+use Rattle.std.proofs.Common.{◌≡◌, ℕ, zero, suc, ◌+◌, ◌-◌, ◌*◌, ◌<◌, ◌≤◌, Bool, true, false, cond, ◌&&◌, leb, List, Some, Option, sym, refl, ap, ◌∙◌, subst, inl, inr, mul-le-mul_left, mul-one, add-one, arith}
+use Rattle.std.proofs.lemmas.Bool.{and_parts, and_from, leb-true, le-leb}
 use Rattle.model_file.specs.declared.layout.Layout.{Layout}
 use Rattle.model_file.specs.Fields.{variable_count, size_of, node_count, process_count, body_of}
 use Rattle.model_rules.specs.declared.shape.Shape.{Shape}
 use Rattle.model_rules.specs.declared.shape.Shape.TheVariants.{Call, Condition, Choice, Sum, Action, Delay}
-use Rattle.model_rules.specs.Shapes.{shape_at, children_of}
-use Rattle.model_rules.specs.Sound.{Once, Place, body, child, IsNode, IsBody, Names, Stands, LeadsTo, Moved, IsCall, Resting, Way, here, condition, left, right, sum, Ends}
+use Rattle.model_rules.specs.Shapes.{shape_at}
+use Rattle.model_rules.specs.Sound.{Once, body, child, IsNode, Names, Stands, LeadsTo, Moved, IsCall, Resting, Way, here, condition, left, right, sum, Ends}
 use Rattle.model_rules.specs.Tallies.{resting}
 use Rattle.model_rules.specs.Ways.{limits, ways_of, ways, ways_fit}
-use Rattle.model_rules.proofs.Decoded.{is_node, shape_is}
+use Rattle.model_rules.proofs.Decoded.{shape_is}
 use Rattle.model_rules.proofs.Down.{ways_at}
 use Rattle.model_rules.proofs.Moves.{resting_is, resting_made}
 

@@ -1,14 +1,14 @@
 -- The rules have no fault just where the nodes are sound, in a file within its limits.
-use Rattle.std.proofs.Common.{◌≡◌, ℕ, ◌<◌, true, ◌⊎◌, List, Ok, Result, sym, ap, ◌∙◌, subst, inl, inr}
+use Rattle.std.proofs.Common.{◌≡◌, ℕ, ◌<◌, List, Ok, Result, sym, ap, ◌∙◌, subst, inl, inr}
 use Rattle.std.proofs.lemmas.Bool.{ltb-true, lt-ltb}
 use Rattle.words.specs.Headers.{Iff}
 use Rattle.model_file.specs.declared.fault.ModelFault.{ModelFault}
 use Rattle.model_file.specs.declared.layout.Layout.{Layout}
-use Rattle.model_file.specs.Fields.{process_count, body_of, node_count}
+use Rattle.model_file.specs.Fields.{body_of, node_count}
 use Rattle.model_file.specs.Layouts.{layout_of}
 use Rattle.model_file.specs.Limits.{Limits, InLimits}
 use Rattle.model_rules.specs.Rules.{rules_fault, ruled}
-use Rattle.model_rules.specs.Sound.{Names, IsNode, Moved, Resting, LeadsTo, Soundly, Sound}
+use Rattle.model_rules.specs.Sound.{Names, IsNode, Resting, LeadsTo, Soundly, Sound}
 use Rattle.model_rules.specs.declared.shape.Shape.{Shape}
 use Rattle.model_rules.specs.declared.shape.Shape.TheVariants.{Call, Condition, Choice, Sum, Action, Delay}
 use Rattle.model_rules.proofs.Bound.{once_bound, bound_once}

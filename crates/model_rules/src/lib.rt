@@ -1,5 +1,7 @@
 // The rules that hold over a whole model file: what is named is there, each node is placed once and each variable bound
 // once, calls follow actions and delays, and the ways down are within their limits.
+#![tactic(auto)]
+
 mod names;
 mod places;
 mod rules;

@@ -1,5 +1,5 @@
 -- A model's summary, put together from its parts. Assumes nothing.
-use Rattle.std.proofs.Common.{◌≡◌, ℕ, false, List, ◌++◌, length, Ok, codes, Result, sym, refl, ap, ◌∙◌, subst}
+use Rattle.std.proofs.Common.{◌≡◌, ℕ, false, List, ◌++◌, length, Ok, codes, ap, ◌∙◌}
 use Rattle.model.specs.Accept.{judged}
 use Rattle.model.specs.Flat.{Flat, flat, footprint_of}
 use Rattle.report.specs.Data.{refuses}

@@ -1,6 +1,6 @@
 -- What `mapa data` writes: a heading, then a line for each expression, `EXPRESSION VALUE NAMES..`,
 -- the value with all variables 0 and each variable that is named behind a space; or the line of a refusal.
-use Rattle.std.specs.Prelude.{ℕ, zero, suc, Bool, true, false, cond, List, [], ◌∷◌, ◌++◌, Ok, Err, codes, decimal, Result}
+use Rattle.std.specs.Prelude.{ℕ, zero, suc, Bool, true, false, cond, List, [], ◌++◌, Ok, Err, codes, decimal, Result}
 use Rattle.language.specs.Faults.{number_of, record_of}
 use Rattle.language.specs.Meanings.{Meaning}
 use Rattle.language.specs.declared.fault.DataFault.{DataFault}

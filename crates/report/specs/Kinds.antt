@@ -2,7 +2,7 @@
 --     add_kind k v       the counts k with one node more
 --     kinds_below g n    those of the nodes below n
 --     kind_total k       all of them together
-use Rattle.std.specs.Prelude.{ℕ, zero, suc, ◌+◌, List, Some, None, Option}
+use Rattle.std.specs.Prelude.{ℕ, zero, suc, ◌+◌, Some, None, Option}
 use Rattle.model.specs.Flat.{Flat}
 use Rattle.model.specs.Nodes.{NodeValue, call, condition, choice, sum, action, delay, node_in}
 use Rattle.report.specs.declared.kinds.Kinds.{Kinds}

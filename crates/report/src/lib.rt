@@ -1,4 +1,6 @@
 // The text that the programs write, made from the library's answers.
+#![tactic(auto)]
+
 mod data;
 mod kinds;
 mod refusal;

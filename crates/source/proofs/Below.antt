@@ -1,5 +1,5 @@
 -- What a node's tree names and binds, from what its children's do.
-use Rattle.std.proofs.Common.{◌≡◌, ℕ, zero, suc, ◌+◌, ◌-◌, ◌<◌, ◌≤◌, Bool, true, false, ◌||◌, eqb, List, [], ◌∷◌, length, get_or, set, replicate, Some, sym, refl, ap, ◌∙◌, subst, ap₂, ⊎_elim, arith, get_or-set_other, get_or-set_same}
+use Rattle.std.proofs.Common.{◌≡◌, ℕ, zero, suc, ◌+◌, ◌<◌, ◌≤◌, Bool, true, false, ◌||◌, eqb, List, [], ◌∷◌, length, get_or, set, replicate, Some, sym, refl, ap, ◌∙◌, subst, ap₂, ⊎_elim, arith, get_or-set_other, get_or-set_same}
 use Rattle.std.proofs.lemmas.Option.{slice_get-get_or}
 use Rattle.std.proofs.lemmas.Bool.{cases_eq}
 use Rattle.language.specs.Meanings.{Meaning}
@@ -8,7 +8,7 @@ use Rattle.model_rules.specs.declared.shape.Shape.TheVariants.{Call, Condition, 
 use Rattle.words.specs.Words.{bytes_of}
 use Rattle.model.specs.Flat.{Flat}
 use Rattle.model.specs.Nodes.{node_in, value_in, arguments_from, call_arity, action_arity}
-use Rattle.model.specs.Trees.{Tree, call, when, choice, sum, action, delay, planted, tree_of}
+use Rattle.model.specs.Trees.{Tree, planted, tree_of}
 use Rattle.source.specs.Free.{named_in, named, bound}
 use Rattle.source.specs.Nodes.{words_in, named_by, bound_by}
 use Rattle.source.proofs.Grown.{Rises, RisesFrom, tree_is}

@@ -1,5 +1,5 @@
 -- What the nodes of an accepted model file keep, as its flat model has them.
-use Rattle.std.proofs.Common.{◌≡◌, ℕ, zero, suc, ◌+◌, ◌<◌, ◌≤◌, true, cond, ◌&&◌, ltb, leb, List, [], ◌∷◌, map, length, get_or, is_ok, Ok, Err, Result, sym, refl, ap, ◌∙◌, subst, add-one, arith}
+use Rattle.std.proofs.Common.{◌≡◌, ℕ, zero, suc, ◌+◌, ◌<◌, ◌≤◌, true, cond, ◌&&◌, ltb, leb, List, map, length, is_ok, Ok, Err, Result, sym, refl, ap, subst, add-one, arith}
 use Rattle.std.specs.List.{range_with_len}
 use Rattle.std.proofs.lemmas.List.FromFn.{length-map-range_with_len}
 use Rattle.std.proofs.lemmas.Bool.{both_ways, and_parts, leb-true}
@@ -8,7 +8,7 @@ use Rattle.words.specs.Words.{word_at}
 use Rattle.model_file.specs.declared.fault.ModelFault.{ModelFault}
 use Rattle.model_file.specs.declared.fault.ModelFault.TheVariants.{Cut, Limit}
 use Rattle.model_file.specs.declared.layout.Layout.{Layout}
-use Rattle.model_file.specs.Faults.{and_then, or_fault}
+use Rattle.model_file.specs.Faults.{or_fault}
 use Rattle.model_file.specs.Fields.{node_count}
 use Rattle.model_file.specs.Layouts.{layout_of}
 use Rattle.model_file.specs.Sections.{start_fault, sections_fault, sectioned}
@@ -16,7 +16,6 @@ use Rattle.model_file.proofs.Kept.{and_then_ok, unless_ok, when_ok}
 use Rattle.model_rules.specs.declared.shape.Shape.{Shape}
 use Rattle.model_rules.specs.declared.shape.Shape.TheVariants.{Call, Condition, Choice, Sum, Action, Delay}
 use Rattle.model_rules.specs.Rules.{ruled}
-use Rattle.model_rules.specs.Shapes.{shape_at}
 use Rattle.model_rules.specs.Sound.{Soundly, Names}
 use Rattle.model_rules.proofs.Decoded.{shape_is}
 use Rattle.model_rules.proofs.Held.{rules_held}

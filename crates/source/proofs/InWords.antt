@@ -10,11 +10,9 @@ use Rattle.valuation.specs.Valuations.{each, cut, holds}
 use Rattle.valuation.specs.Transitions.{Outcome, Transition, move, wait}
 use Rattle.valuation.specs.Doings.{outcomes}
 use Rattle.source.specs.Models.{Process, Model, Term, node, next, process, param}
-use Rattle.source.specs.Free.{free, here}
+use Rattle.source.specs.Free.{free}
 use Rattle.source.specs.Terms.{term, given, target, start_value, start_term}
-use Rattle.source.specs.Places.{place}
 use Rattle.source.specs.Rules.{Rule, derived, Derives, Enumerated}
-use Rattle.source.specs.Order.{values}
 use Rattle.source.specs.Published.{CutTo, AtParams, IsTerm, Itself, Target, Derivation, ListsAll, implies, choice_l, choice_r, nsum, psum, mstep}
 use Rattle.source.proofs.Totals.{total, sum_by_total, total_map}
 use Rattle.source.proofs.Mapped.{get_or_each}

@@ -1,5 +1,5 @@
 -- Bodies, children and calls, as a model hands them out and as its file has them.
-use Rattle.std.proofs.Common.{◌≡◌, ℕ, zero, suc, ◌+◌, ◌-◌, ◌<◌, ◌≤◌, Bool, true, false, cond, not, ◌&&◌, ◌||◌, eqb, ltb, List, length, get_or, is_ok, Some, None, Option, sym, refl, ap, ◌∙◌, subst, ap₂, ⊎_elim, arith}
+use Rattle.std.proofs.Common.{◌≡◌, ℕ, zero, suc, ◌+◌, ◌<◌, ◌≤◌, true, false, cond, eqb, List, get_or, is_ok, Some, None, Option, sym, refl, ap, ◌∙◌, ap₂, ⊎_elim, arith}
 use Rattle.std.specs.List.{slice_get}
 use Rattle.std.proofs.lemmas.Bool.{cases_Bool}
 use Rattle.model_file.specs.declared.layout.Layout.{Layout}
@@ -8,7 +8,6 @@ use Rattle.model_file.specs.Layouts.{layout_of}
 use Rattle.model_rules.specs.declared.shape.Shape.{Shape}
 use Rattle.model_rules.specs.declared.shape.Shape.TheVariants as shape
 use Rattle.model_rules.specs.Shapes.{shape_at}
-use Rattle.model_rules.specs.Sound.{Resting}
 use Rattle.model_rules.specs.Tallies.{one, total, movers, is_call, resting}
 use Rattle.model_rules.proofs.Decoded.{shape_is}
 use Rattle.model_rules.proofs.Moves.{resting_is, resting_made}

@@ -1,6 +1,6 @@
 -- The published rules in their own words: what a term is, where a transition lands, one constructor for each rule.
 -- Nothing here uses the functions that list the transitions.
-use Rattle.std.specs.Prelude.{◌≡◌, ℕ, ◌+◌, ◌-◌, ◌<◌, ◌≤◌, Bool, true, false, cond, List, [], ◌∷◌, map, length, Some, sum_by, ◌≢◌, slice_index, slice_set}
+use Rattle.std.specs.Prelude.{◌≡◌, ℕ, ◌+◌, ◌-◌, ◌<◌, ◌≤◌, true, false, cond, List, [], ◌∷◌, map, length, Some, sum_by, ◌≢◌, slice_index, slice_set}
 use Rattle.std.specs.List.{slice_get, AllZip, AllByRecursion as All}
 use Rattle.language.specs.Meanings.{Meaning}
 use Rattle.model.specs.Trees.{Tree, call, when, choice, sum, action, delay}

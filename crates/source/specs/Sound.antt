@@ -2,11 +2,11 @@
 --     InScope L S t    every expression in t is below the count and names only variables in scope, S being the scope above
 --     Fits L m         so it is in the body of each process, under its parameters
 --     Sound m          what every accepted model has
-use Rattle.std.specs.Prelude.{◌≡◌, ℕ, suc, ◌-◌, ◌<◌, ◌≤◌, Bool, true, ◌||◌, List, [], ◌∷◌, length, ◌==◌, slice_index}
+use Rattle.std.specs.Prelude.{◌≡◌, ℕ, suc, ◌-◌, ◌<◌, ◌≤◌, Bool, true, ◌||◌, length, ◌==◌, slice_index}
 use Rattle.std.specs.List.{AllByRecursion as All}
 use Rattle.language.specs.Meanings.{Meaning}
 use Rattle.model.specs.Trees.{Tree, call, when, choice, sum, action, delay}
-use Rattle.source.specs.Models.{Process, Model, node, process, param}
+use Rattle.source.specs.Models.{Model, node, process, param}
 
 abbrev pub Scope : Type 0
 Scope = ℕ → Bool

@@ -1,4 +1,6 @@
 // Terms of a model and their derivations, where variables are free, and program counters.
+#![tactic(auto)]
+
 mod free;
 mod numbering;
 mod own;

@@ -1,5 +1,5 @@
 -- What a question that was answered says of the lists.
-use Rattle.std.proofs.Common.{◌≡◌, ℕ, ◌-◌, ◌<◌, ◌≤◌, Bool, true, false, cond, eqb, List, [], ◌++◌, length, get_or, take, drop, replicate, Some, None, Ok, Err, Option, Result, sym, refl, ap, ◌∙◌, arith, length-drop, length-take}
+use Rattle.std.proofs.Common.{◌≡◌, ℕ, ◌-◌, ◌<◌, ◌≤◌, Bool, true, false, cond, eqb, List, [], ◌++◌, length, get_or, take, drop, replicate, Some, None, Ok, Err, Option, Result, ap, ◌∙◌, arith, length-drop, length-take}
 use Rattle.std.proofs.lemmas.List.{drop-replicate, take_at}
 use Rattle.std.proofs.lemmas.Bool.{eq-eqb, ne_eqb}
 use Rattle.std.specs.List.{slice_get}
@@ -12,7 +12,7 @@ use Rattle.system.specs.declared.answers.Weight.{Weight}
 use Rattle.system.specs.declared.answers.Rate.{Rate}
 use Rattle.system.specs.declared.answers.Step.TheVariants.{Acted, Waited}
 use Rattle.system.specs.declared.refusal.Refusal.{Refusal}
-use Rattle.system.specs.declared.refusal.Refusal.TheVariants.{OutsideSet, NoMove, NoOutcome, WrongBuffer}
+use Rattle.system.specs.declared.refusal.Refusal.TheVariants.{NoMove, NoOutcome, WrongBuffer}
 
 -- the front of a row, as code lends it
 pub part_long : (row : List ℕ) (w v : ℕ) → w ≤ length row → w ≡ v → length (take (w - 0) (drop 0 row)) ≡ v

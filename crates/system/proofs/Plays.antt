@@ -1,8 +1,8 @@
 -- The loop that makes calls on a walk and notes their answers.
-use Rattle.std.proofs.Common.{◌≡◌, ℕ, zero, suc, ◌+◌, ◌<◌, ◌≤◌, List, [], ◌∷◌, length, get_or, drop, set, Result, sym, refl, ap, ◌∙◌, subst, arith}
+use Rattle.std.proofs.Common.{◌≡◌, ℕ, suc, ◌+◌, ◌<◌, ◌≤◌, List, [], ◌∷◌, length, get_or, drop, set, Result, sym, refl, ap, ◌∙◌, subst, arith}
 use Rattle.std.proofs.lemmas.List.{at_drop_more, at_drop_all}
 use Rattle.system.specs.Systems.{Meaning, Delay}
-use Rattle.system.specs.Walks.{Course, call_answer, call_course, fresh, run, run_answers, played, played_answers, overlaid}
+use Rattle.system.specs.Walks.{Course, call_answer, fresh, run, run_answers, played, played_answers, overlaid}
 use Rattle.system.specs.Trails.{course, Called}
 use Rattle.system.specs.Reaching.{Walked}
 use Rattle.system.specs.declared.answers.Call.{Call}

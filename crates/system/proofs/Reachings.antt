@@ -12,7 +12,7 @@ use Rattle.system.specs.declared.answers.Call.TheVariants.{Act, Wait, Back, Rest
 use Rattle.system.specs.declared.answers.Step.{Step}
 use Rattle.system.specs.declared.answers.Step.TheVariants.{Acted, Waited}
 use Rattle.system.specs.declared.refusal.Refusal.{Refusal}
-use Rattle.system.specs.declared.refusal.Refusal.TheVariants.{OutsideSet, NoMove, NoOutcome}
+use Rattle.system.specs.declared.refusal.Refusal.TheVariants.{NoMove, NoOutcome}
 
 module _ (m : Meaning) (ds : List ℕ → List Delay) where
   abbrev Leads : List ℕ → Next → Type 0

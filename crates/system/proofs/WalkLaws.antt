@@ -1,5 +1,5 @@
 -- Laws of walks: whatever is reached by few steps, some calls lead to; refused calls change nothing; back undoes.
-use Rattle.std.proofs.Common.{◌≡◌, ℕ, zero, suc, ◌<◌, ◌≤◌, Bool, true, false, cond, eqb, ltb, List, [], ◌∷◌, ◌++◌, length, Some, Ok, Err, Result, refl, ap, ◌∙◌, subst, arith}
+use Rattle.std.proofs.Common.{◌≡◌, ℕ, zero, suc, ◌<◌, Bool, true, false, eqb, ltb, List, [], ◌∷◌, ◌++◌, length, Some, Ok, Err, Result, refl, ap, ◌∙◌, subst, arith}
 use Rattle.std.proofs.lemmas.Bool.{lt-ltb, ne_eqb}
 use Rattle.std.specs.List.{slice_get, AllByRecursion as All}
 use Rattle.system.specs.Systems.{Meaning, Move, Outcome, Delay, Sound, SoundDelays, FairMove, FairDelay}

@@ -1,6 +1,6 @@
 -- What each question answers, by a system's lists: NAME-answer is the answer of the question NAME.
 -- Refusals come in the order buffer, state, move or delay, outcome.
-use Rattle.std.specs.Prelude.{ℕ, ◌-◌, Bool, cond, List, [], ◌∷◌, ◌++◌, length, take, replicate, Some, None, Ok, Err, Option, Result, ◌==◌}
+use Rattle.std.specs.Prelude.{ℕ, ◌-◌, Bool, cond, List, [], ◌++◌, length, take, replicate, Some, None, Ok, Err, Option, Result, ◌==◌}
 use Rattle.std.specs.List.{slice_get}
 use Rattle.system.specs.Systems.{widest, Move, Outcome, Delay, Meaning}
 use Rattle.system.specs.declared.answers.Label.{Label}

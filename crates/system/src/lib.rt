@@ -1,4 +1,6 @@
 // Systems of moves and delays, and walks over any of them.
+#![tactic(auto)]
+
 mod answers;
 mod playing;
 mod refusal;

@@ -1,4 +1,6 @@
 // Questions, walks and plays of a small system.
+#![tactic(auto)]
+
 #[cfg(test)]
 mod questions;
 #[cfg(test)]

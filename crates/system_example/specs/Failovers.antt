@@ -1,5 +1,5 @@
 -- A primary server with a standby: its states, moves and delays.
-use Rattle.std.specs.Prelude.{ℕ, Bool, cond, ◌&&◌, List, [], ◌∷◌, length, is_some, Some, None, Option, ◌==◌, slice_index}
+use Rattle.std.specs.Prelude.{ℕ, cond, ◌&&◌, List, [], ◌∷◌, length, is_some, Some, None, Option, ◌==◌, slice_index}
 use Rattle.system.specs.Systems.{Move, Outcome, Delay, Meaning}
 use Rattle.system_example.specs.declared.failover.Mode.{Mode}
 use Rattle.system_example.specs.declared.failover.Mode.TheVariants.{Both, Standby, Neither}

@@ -1,5 +1,5 @@
 -- A system with action a renamed to b.
-use Rattle.std.specs.Prelude.{ℕ, cond, List, map, ◌==◌}
+use Rattle.std.specs.Prelude.{ℕ, cond, map, ◌==◌}
 use Rattle.system.specs.Systems.{Move, Meaning}
 
 abbrev pub rename_move : ℕ → ℕ → Move → Move

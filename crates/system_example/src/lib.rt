@@ -1,4 +1,6 @@
 // A small system and a layer over any, to try walks and explorations on.
+#![tactic(auto)]
+
 mod action;
 mod failover;
 mod rename;

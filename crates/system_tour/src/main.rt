@@ -1,4 +1,6 @@
 // Walks over and explores the failover pair, and the same pair with an action renamed.
+#![tactic(auto)]
+
 use explore::explore;
 use system::{Call, Label, Markov, Refusal, Step, System, Walk, play};
 use system_example::{Action, Failover, Rename};

@@ -1,16 +1,15 @@
 -- The records and values of a file, written down, are its bytes. Assumes nothing.
-use Rattle.std.proofs.Common.{◌≡◌, ℕ, zero, suc, ◌+◌, ◌*◌, ◌≤◌, Bool, true, cond, eqb, ltb, leb, List, [], ◌∷◌, ◌++◌, length, drop, IfOk, Ok, Err, Result, sym, refl, ap, ◌∙◌, zero-add, arith}
+use Rattle.std.proofs.Common.{◌≡◌, ℕ, zero, suc, ◌+◌, ◌*◌, ◌≤◌, eqb, ltb, leb, List, [], ◌∷◌, ◌++◌, length, drop, IfOk, Ok, Err, sym, refl, ap, ◌∙◌, zero-add, arith}
 use Rattle.std.proofs.lemmas.List.{append-nil, drop_all, length-append}
 use Rattle.std.proofs.lemmas.Bool.{cond_both, eqb-true, ltb-false}
 use Rattle.std.specs.List.{flat_map}
 use Rattle.words.specs.Headers.{headed}
 use Rattle.words.specs.Words.{word_at, bytes_of, Bytes}
 use Rattle.words.proofs.Runs.{word_run, four_run, runs_join}
-use Rattle.language.specs.Files.{count_of, then, rows}
-use Rattle.language.specs.declared.fault.DataFault.{DataFault}
+use Rattle.language.specs.Files.{count_of, rows}
 use Rattle.language.specs.declared.fault.DataFault.TheVariants.{Length, Rule}
 use Rattle.language.proofs.Runs.{made_then, Counted, count_run, Ran, rows_run}
-use Rattle.table.specs.Files.{record_place, values_place, record_words, record_of, total_of, words_from, Contents, table_file}
+use Rattle.table.specs.Files.{record_place, values_place, record_words, record_of, total_of, words_from, table_file}
 use Rattle.table.specs.Formats.{row_words, table_bytes}
 use Rattle.table.specs.Records.{ruled}
 use Rattle.table.specs.declared.record.Record.{Record}

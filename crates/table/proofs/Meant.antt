@@ -1,18 +1,18 @@
 -- A table looks up and names what its rules say. Assumes nothing.
-use Rattle.std.proofs.Common.{◌≡◌, ℕ, ◌+◌, ◌*◌, ◌<◌, ◌≤◌, Bool, true, false, cond, ◌&&◌, ◌||◌, eqb, ltb, ◌⊎◌, List, length, get_or, take, Ok, Result, sym, refl, ap, ◌∙◌, subst, inl, inr, ⊎_elim, arith}
+use Rattle.std.proofs.Common.{◌≡◌, ℕ, ◌<◌, ◌≤◌, false, cond, ◌||◌, eqb, ltb, List, length, get_or, take, Ok, sym, refl, ap, ◌∙◌, subst, inl, inr, ⊎_elim}
 use mathlib.Core.Path.{fun_ext}
 use Rattle.std.proofs.lemmas.List.{length-take-le, get_or-take}
 use Rattle.std.proofs.lemmas.Bool.{cases_lt, cond-true, cond-false, eq-eqb, eqb-true, lt-ltb, le-ltb, or_cases, or_left, or_right}
 use Rattle.std.proofs.lemmas.Result.{IfOk-at_ok}
 use Rattle.words.specs.Words.{Bytes}
 use Rattle.language.specs.Files.{then}
-use Rattle.language.specs.Meanings.{Meaning, word, AtMost, value_at}
+use Rattle.language.specs.Meanings.{Meaning, word}
 use Rattle.language.proofs.Largest.{word_at_most, at_most_word}
 use Rattle.table.specs.Files.{Contents, table_file, table_language}
 use Rattle.table.specs.Formats.{table_bytes}
 use Rattle.table.proofs.Formats.{file_bytes}
 use Rattle.table.specs.Records.{no_record, record_at, place_of, entry_at, table_value, table_names, meaning_of}
-use Rattle.table.specs.Rules.{IsRecord, LooksUp, entry, none, Means, Reads, ReadsAs}
+use Rattle.table.specs.Rules.{IsRecord, LooksUp, entry, none, Means, ReadsAs}
 use Rattle.table.specs.declared.record.Record.{Record}
 
 looks_up : (es : List ℕ) (r : Record) (v : List ℕ) → LooksUp es r v (entry_at es (length es) (place_of r v))

@@ -5,7 +5,7 @@
 --     words_from bs p t   t words from p on
 --     table_file bs       the records and values of a file, or its first fault in file order
 --     table_language bs   the language of a file
-use Rattle.std.specs.Prelude.{ℕ, zero, suc, ◌+◌, ◌*◌, Bool, cond, List, [], ◌∷◌, ◌++◌, length, Ok, Err, Result, ◌==◌, nat_le, nat_lt}
+use Rattle.std.specs.Prelude.{ℕ, zero, suc, ◌+◌, ◌*◌, cond, List, [], ◌∷◌, ◌++◌, length, Ok, Err, Result, ◌==◌, nat_le, nat_lt}
 use Rattle.words.specs.Words.{word_at}
 use Rattle.language.specs.Files.{count_of, then, rows}
 use Rattle.language.specs.Meanings.{Meaning}

@@ -1,11 +1,11 @@
 -- A table is a lawful data language. Assumes nothing.
-use Rattle.std.specs.Prelude.{◌≡◌, ℕ, ◌+◌, ◌*◌, ◌<◌, ◌≤◌, Bool, true, false, cond, ◌&&◌, ◌||◌, List, ◌==◌, nat_lt, slice_index, refl}
-use Rattle.std.proofs.Common.{ap, ◌∙◌, ⊎_elim, arith}
-use Rattle.std.proofs.lemmas.Bool.{and_parts, or_left, or_right, eq-eqb, ltb-true, cond_both, cond-false, le-ltb}
+use Rattle.std.specs.Prelude.{◌≡◌, ℕ, ◌<◌, ◌≤◌, Bool, true, false, cond, ◌||◌, List, ◌==◌, nat_lt, slice_index, refl}
+use Rattle.std.proofs.Common.{ap, arith}
+use Rattle.std.proofs.lemmas.Bool.{or_left, or_right, eq-eqb, cond_both, cond-false, le-ltb}
 use Rattle.std.proofs.lemmas.Bool.Decides.{nat_tests}
 use Rattle.language.specs.Meanings.{Agree, Lawful, value_at, word}
 use Rattle.language.proofs.Rows.{every_at}
-use Rattle.table.specs.Records.{ruled, lawful, record_at, place_of, entry_at, table_value, table_names, meaning_of}
+use Rattle.table.specs.Records.{ruled, lawful, record_at, place_of, entry_at, meaning_of}
 use Rattle.table.specs.declared.record.Record.{Record}
 
 lawful_at : (rs : List Record) (n e : ℕ) → lawful rs n ≡ true → e < n → ruled (record_at rs e) ≡ true

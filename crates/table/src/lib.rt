@@ -1,4 +1,6 @@
 // Tables: the data language whose expressions look values up by two variables.
+#![tactic(auto)]
+
 mod language;
 mod reading;
 mod record;

@@ -1,5 +1,5 @@
 -- A side that keeps the free variables has the transitions of the model.
-use Rattle.std.proofs.Common.{◌≡◌, ℕ, ◌<◌, Bool, cond, List, [], ◌++◌, length, get_or, set, refl, ap, ap₂}
+use Rattle.std.proofs.Common.{◌≡◌, ℕ, ◌<◌, Bool, cond, List, [], ◌++◌, length, set, refl, ap, ap₂}
 use mathlib.Core.Path.{fun_ext}
 use Rattle.std.specs.List.{flat_map, AllByRecursion as All}
 use Rattle.std.proofs.ByRecursion.{All-get_or}
@@ -8,8 +8,8 @@ use Rattle.model.specs.Trees.{Tree, call, when, choice, sum, action, delay}
 use Rattle.valuation.specs.Valuations.{values_of, each, holds}
 use Rattle.valuation.specs.Doings.{acts, waits, does}
 use Rattle.source.specs.Free.{free}
-use Rattle.source.specs.Models.{Process, Model, Term, no_process, next, node, process}
-use Rattle.source.specs.Sound.{Calls, Here, Numbered}
+use Rattle.source.specs.Models.{Model, no_process, next, node, process}
+use Rattle.source.specs.Sound.{Calls, Numbered}
 use Rattle.source.specs.Terms.{term, target, transitions}
 use Rattle.term_side.specs.Meanings.{kept_term, kept_target, kept_transitions}
 

@@ -1,4 +1,6 @@
 // Valuations: one value for each variable of a model, and what conditions and actions make of them.
+#![tactic(auto)]
+
 mod conditions;
 mod fitting;
 mod valuation;

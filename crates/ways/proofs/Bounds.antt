@@ -1,5 +1,5 @@
 -- How many leaves there are at most.
-use Rattle.std.proofs.Common.{◌≡◌, ℕ, zero, suc, ◌+◌, ◌-◌, ◌*◌, ◌<◌, ◌≤◌, Bool, true, false, cond, List, [], ◌∷◌, ◌++◌, length, get_or, set, sym, refl, ap, ◌∙◌, subst, suc-mul, zero-mul, arith, length-append}
+use Rattle.std.proofs.Common.{◌≡◌, ℕ, zero, suc, ◌+◌, ◌*◌, ◌≤◌, Bool, true, false, cond, List, [], ◌++◌, length, get_or, set, suc-mul, arith, length-append}
 use Rattle.std.specs.List.{range_with_len, flat_map}
 use Rattle.language.specs.Meanings.{Meaning}
 use Rattle.valuation.specs.Valuations.{holds}

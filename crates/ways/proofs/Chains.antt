@@ -1,13 +1,13 @@
 -- Sums one in another.
-use Rattle.std.proofs.Common.{◌≡◌, ℕ, zero, suc, ◌+◌, ◌-◌, ◌<◌, ◌≤◌, true, ltb, List, [], ◌∷◌, ◌++◌, length, get_or, take, set, sym, refl, ap, ◌∙◌, ap₂, append_assoc, append-nil, arith}
+use Rattle.std.proofs.Common.{◌≡◌, ℕ, zero, suc, ◌+◌, ◌<◌, ◌≤◌, true, ltb, List, [], ◌∷◌, ◌++◌, length, get_or, take, set, sym, refl, ap, ◌∙◌, ap₂, append_assoc, append-nil, arith}
 use Rattle.std.proofs.lemmas.List.{length-take-le, get_or-take}
 use Rattle.std.proofs.lemmas.Bool.{and_from, lt-ltb}
-use Rattle.std.specs.List.{range_with_len, flat_map}
+use Rattle.std.specs.List.{flat_map}
 use Rattle.language.specs.Meanings.{Meaning}
 use Rattle.valuation.specs.Valuations.{values_of, spread}
 use Rattle.ways.specs.Chains.{chain, chain_from, chain_at}
 use Rattle.ways.specs.Leaves.{Leaf, leaves}
-use Rattle.ways.specs.Trees.{Tree, dead, sum, leaf, higher, most_frames}
+use Rattle.ways.specs.Trees.{dead, sum, leaf, higher, most_frames}
 
 chain_zero : (i : ℕ) (xs : List ℕ) → chain_from i xs 0 ≡ chain i xs
 chain_zero i [] = refl

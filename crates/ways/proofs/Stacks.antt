@@ -1,12 +1,12 @@
 -- What a stack of frames gives, as a frame is taken off and others are put on.
-use Rattle.std.proofs.Common.{◌≡◌, ℕ, zero, suc, ◌+◌, ◌-◌, ◌<◌, ◌≤◌, Bool, true, false, cond, eqb, ◌≢◌, ◌⊎◌, List, [], ◌∷◌, ◌++◌, length, get_or, set, sym, refl, ap, ◌∙◌, subst, ap₂, inl, inr, ⊎_elim, append_assoc, add-one, arith, length-set, get_or-set_other, get_or-set_same}
+use Rattle.std.proofs.Common.{◌≡◌, ℕ, zero, suc, ◌+◌, ◌-◌, ◌<◌, ◌≤◌, ◌≢◌, List, [], ◌++◌, length, get_or, set, sym, refl, ap, ◌∙◌, subst, ap₂, ⊎_elim, add-one, arith, length-set, get_or-set_other, get_or-set_same}
 use Rattle.std.specs.List.{range_with_len, flat_map}
-use Rattle.std.proofs.lemmas.Bool.{cases_eq, eq-eqb, ne_eqb, cond-true, cond-false}
+use Rattle.std.proofs.lemmas.Bool.{cases_eq}
 use Rattle.language.specs.Meanings.{Meaning}
 use Rattle.ways.specs.declared.frames.Frame.{Frame}
 use Rattle.ways.specs.Trees.{Tree, dead, when, choice, sum, leaf, most_frames}
-use Rattle.ways.specs.Leaves.{Leaf, leaves}
-use Rattle.ways.specs.Stacks.{leaves_from, no_frame, over, frame_leaves, remaining, rounds, work, work_from, frame_work, work_left, Ready}
+use Rattle.ways.specs.Leaves.{leaves}
+use Rattle.ways.specs.Stacks.{leaves_from, no_frame, over, rounds, work, work_from, Ready}
 
 -- frames
 module _ {X : Type 0} (h : Frame → X → X) (z : X) where

@@ -1,5 +1,5 @@
 -- A turn at each kind of branch.
-use Rattle.std.proofs.Common.{◌≡◌, ℕ, zero, suc, ◌+◌, ◌-◌, ◌<◌, ◌≤◌, Bool, true, false, cond, ◌&&◌, ltb, List, [], ◌∷◌, ◌++◌, length, get_or, set, Some, None, sym, refl, ap, ◌∙◌, subst, ap₂, append_assoc, arith}
+use Rattle.std.proofs.Common.{◌≡◌, ℕ, ◌+◌, ◌-◌, ◌<◌, ◌≤◌, true, false, cond, ◌&&◌, ltb, List, [], ◌∷◌, ◌++◌, length, get_or, set, Some, None, sym, ap, ◌∙◌, subst, ap₂, append_assoc, arith}
 use Rattle.std.proofs.lemmas.Bool.{and_parts, ltb-true}
 use Rattle.language.specs.Meanings.{Meaning}
 use Rattle.valuation.specs.Valuations.{holds, listed}
@@ -8,7 +8,7 @@ use Rattle.ways.specs.declared.branch.Found.{Found}
 use Rattle.ways.specs.declared.frames.Frame.{Frame}
 use Rattle.ways.specs.Trees.{Tree, dead, when, choice, sum, leaf, higher, most_frames}
 use Rattle.ways.specs.Leaves.{Leaf, leaves, leaf_of}
-use Rattle.ways.specs.Stacks.{leaves_from, no_frame, over, frame_leaves, remaining, rounds, work, work_from, frame_work, work_left, Ready, Turned}
+use Rattle.ways.specs.Stacks.{leaves_from, no_frame, frame_leaves, remaining, work_from, frame_work, work_left, Ready, Turned}
 use Rattle.ways.proofs.Stacks.{over_top, over_put, over_two, ready_pop, ready_put, ready_two, from_zero, sum_on, sum_end, work_pos, work_zero, work_on}
 
 is_higher : (n c : ℕ) → higher n c ≡ true → (n < c) × (c < most_frames)

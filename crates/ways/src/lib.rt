@@ -1,5 +1,7 @@
 // The ways down a tree of nodes to its leaves, one after the other: a loop with a stack of frames.
 // It serves any nodes and any data language; a chain of sums is a tree too.
+#![tactic(auto)]
+
 mod branch;
 mod counting;
 mod cursor;

@@ -1,10 +1,9 @@
 -- A header is accepted just where the file is the one with that header. Assumes nothing.
-use Rattle.std.proofs.Common.{◌≡◌, ℕ, suc, ◌+◌, ◌-◌, ◌*◌, ◌/◌, ◌%◌, ◌<◌, ◌≤◌, Bool, true, false, cond, not, ◌||◌, eqb, ltb, List, [], ◌∷◌, ◌++◌, length, get_or, drop, Ok, Err, Result, sym, refl, ap, ◌∙◌, arith}
+use Rattle.std.proofs.Common.{◌≡◌, ℕ, ◌+◌, ◌*◌, ◌/◌, ◌%◌, ◌<◌, List, [], ◌∷◌, length, get_or, drop, Ok, Result, sym, ap, ◌∙◌, arith}
 use Rattle.std.proofs.lemmas.Bool.Decides.{nat_tests}
-use Rattle.words.specs.Words.{long_at, Bytes}
-use Rattle.words.specs.Headers.{header_of, headed, four_bytes, Iff}
+use Rattle.words.specs.Words.{Bytes}
+use Rattle.words.specs.Headers.{header_of, headed, Iff}
 use Rattle.words.specs.declared.header.HeaderFault.{HeaderFault}
-use Rattle.words.specs.declared.header.HeaderFault.TheVariants.{Version, Length}
 
 -- four bytes are those of the number that they give
 four_is : (n b c d e : ℕ) → b < 256 → c < 256 → d < 256 → e < 256 → (b * 256 + c) * 65536 + (d * 256 + e) ≡ n → (b ≡ n / 16777216) × (c ≡ n / 65536 % 256) × (d ≡ n / 256 % 256) × (e ≡ n % 256)

@@ -1,4 +1,6 @@
 // What every file of the product is made of: a header, and 16-bit words, high byte first.
+#![tactic(auto)]
+
 mod header;
 mod put;
 mod word;

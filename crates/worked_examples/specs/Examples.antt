@@ -1,7 +1,7 @@
 -- Worked examples: a queue of at most two, two equal delays, weights.
 --     file g           the model file of a flat model; its language is that of the cells beside it
 --     Worked           the equations
-use Rattle.std.specs.Prelude.{◌≡◌, ℕ, true, List, [], ◌∷◌, map, length, Ok, sum_by}
+use Rattle.std.specs.Prelude.{◌≡◌, ℕ, List, [], ◌∷◌, map, length, Ok, sum_by}
 use Rattle.language.specs.Meanings.{Meaning}
 use Rattle.formula.specs.Cells.{meaning_of}
 use Rattle.formula.specs.Files.{formula_language}
@@ -18,7 +18,7 @@ use Rattle.source.specs.Models.{model_of}
 use Rattle.fit.specs.Fitting.{fit_of}
 use Rattle.linear.specs.Equations.{Linear}
 use Rattle.linear.specs.Layout.{file_of}
-use Rattle.linear_side.specs.Meanings.{is_vector, linear_meaning, linear_delays}
+use Rattle.linear_side.specs.Meanings.{linear_meaning, linear_delays}
 use Rattle.term_side.specs.Meanings.{free_in, term_meaning, term_delays}
 use Rattle.system.specs.Systems.{Move, Delay, total}
 use Rattle.behaviour.specs.Linearised as linearised

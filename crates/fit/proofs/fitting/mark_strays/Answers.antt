@@ -1,4 +1,4 @@
-use Rattle.std.proofs.Common.{◌≡◌, ℕ, ◌<◌, Bool, true, false, ◌||◌, eqb, length, get_or, sym, refl, ap, ◌∙◌, arith}
+use Rattle.std.proofs.Common.{◌≡◌, ◌<◌, true, false, ◌||◌, eqb, length, get_or, sym, ap, ◌∙◌, arith}
 use Rattle.model.specs.Flat.{flat}
 use Rattle.model.specs.Nodes.{node_in}
 use Rattle.fit.specs.Fitting.{strays_at}
@@ -19,7 +19,7 @@ loop-node-preserved-then-not-stray g c =
     let G = flat c.args.model.now.bytes.now in
     let x = c.args.variable in
     let i = c.loop-node.node in
-    let z : strays_at L G i x ≡ false = sym (c.if-not-stray.ensures.answer ∙ ap (λ b. in_node (strays L x b) (node_in G i)) (c.scope-nodes-scope.ensures.answer i (omega arith))) in
+    let z : strays_at L G i x ≡ false = sym (c.if-not-stray.ensures.answer ∙ ap (λ b. in_node (strays L x b) (node_in G i)) (c.scope_nodes-scope.ensures.answer i (omega arith))) in
     λ k l. c.loop-node.invariant k l ∙ flagged_off (λ j. strays_at L G j x) (get_or c.args.flags.now k false) i k z
 
 pub loop-node-preserved : goal.loop-node-preserved
@@ -28,7 +28,7 @@ loop-node-preserved g c =
     let G = flat c.args.model.now.bytes.now in
     let x = c.args.variable in
     let i = c.loop-node.node in
-    let z : strays_at L G i x ≡ true = sym (c.if-not-stray.ensures.answer ∙ ap (λ b. in_node (strays L x b) (node_in G i)) (c.scope-nodes-scope.ensures.answer i (omega arith))) in
+    let z : strays_at L G i x ≡ true = sym (c.if-not-stray.ensures.answer ∙ ap (λ b. in_node (strays L x b) (node_in G i)) (c.scope_nodes-scope.ensures.answer i (omega arith))) in
     λ k l.
     let low : k < length c.loop-node.flags = omega (arith, c.mark.auto.flags) in
     c.mark.ensures.leaves k low ∙ ap (λ b. eqb i k || b) (c.loop-node.invariant k low)

@@ -1,4 +1,4 @@
-use Rattle.std.proofs.Common.{◌≡◌, ℕ, Bool, false, ◌||◌, length, sym, refl, ap, ◌∙◌, arith}
+use Rattle.std.proofs.Common.{◌≡◌, ◌||◌, sym, refl, ap, ◌∙◌, arith}
 use Rattle.model.specs.Flat.{flat}
 use Rattle.source.proofs.Below.{falses}
 use Rattle.fit.specs.Fitting.{strays_at}
@@ -14,8 +14,8 @@ loop-variable-preserved g c =
     let L = g.L.Language.meaning c.args.language.now in
     let G = flat c.args.model.now.bytes.now in
     let x = c.loop-variable.variable in (
-      omega (arith, c.mark-strays.auto.flags, c.loop-variable.invariant.0),
-      λ k l. c.mark-strays.ensures.leaves k (omega (arith, c.loop-variable.invariant.0)) l ∙ ap (λ b. strays_at L G k x || b) (c.loop-variable.invariant.1 k l) ∙ sym (below_more (strays_at L G k) x),
+      omega (arith, c.mark_strays.auto.flags, c.loop-variable.invariant.0),
+      λ k l. c.mark_strays.ensures.leaves k (omega (arith, c.loop-variable.invariant.0)) l ∙ ap (λ b. strays_at L G k x || b) (c.loop-variable.invariant.1 k l) ∙ sym (below_more (strays_at L G k) x),
     )
 
 pub returns : goal.returns

@@ -1,4 +1,4 @@
-use Rattle.std.proofs.Common.{◌≡◌, ℕ, Bool, false, ◌||◌, length, sym, refl, ap, ◌∙◌, arith}
+use Rattle.std.proofs.Common.{◌≡◌, ℕ, Bool, ◌||◌, length, sym, refl, ap, ◌∙◌, arith}
 use Rattle.std.specs.List.{slice_get}
 use Rattle.model.specs.Flat.{flat}
 use Rattle.source.proofs.Below.{falses}
@@ -14,12 +14,12 @@ loop-process-preserved c =
     let g = flat c.args.model.now.bytes.now in
     let f : ℕ → ℕ → Bool = λ k p. begins (slice_get g.processes p) c.args.variable k in
     let i = c.loop-process.process in (
-      omega (arith, c.mark-body.auto.flags, c.loop-process.invariant.0),
-      λ k l. c.mark-body.ensures.leaves k (omega (arith, c.loop-process.invariant.0)) ∙ ap (λ b. f k i || b) (c.loop-process.invariant.1 k l) ∙ sym (below_more (f k) i),
+      omega (arith, c.mark_body.auto.flags, c.loop-process.invariant.0),
+      λ k l. c.mark_body.ensures.leaves k (omega (arith, c.loop-process.invariant.0)) ∙ ap (λ b. f k i || b) (c.loop-process.invariant.1 k l) ∙ sym (below_more (f k) i),
     )
 
 pub returns : goal.returns
 returns c =
     let g = flat c.args.model.now.bytes.now in
-    let e : c.loop-process.process ≡ length g.processes = omega (arith, c.process-count-count.ensures.answer) in
+    let e : c.loop-process.process ≡ length g.processes = omega (arith, c.process_count-count.ensures.answer) in
     record { answer = λ k l. c.loop-process.invariant.1 k l ∙ ap (any_below (λ p. begins (slice_get g.processes p) c.args.variable k)) e }

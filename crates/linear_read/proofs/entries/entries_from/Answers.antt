@@ -1,4 +1,4 @@
-use Rattle.std.proofs.Common.{◌≡◌, length, Some, sym, ap, ◌∙◌, arith, length-set, rules}
+use Rattle.std.proofs.Common.{Some, sym, ap, ◌∙◌, arith, length-set}
 use Rattle.std.proofs.lemmas.List.{take_more_set}
 use Rattle.linear.specs.Reading.{or_no_entries}
 use Rattle.linear.proofs.Rows.{entries_more, entries_none}

@@ -5,6 +5,6 @@ pub returns : goal.returns
 returns c =
     let long = c.length.ensures.answer in
     record {
-      answer = guard_read _ _ _ c.length.result _ _ _ c.in-ok-counter.ensures.answer c.in-ok-sums.ensures.answer long c.in-ok-conditions.ensures.answer;
-      room = guard_room c.args.bytes.now c.args.place c.args.at c.length.result c.in-ok-counter.counter _ _ long c.in-ok-conditions.ensures.room;
+      answer = guard_read _ _ _ c.length.result _ _ _ c.in_ok-counter.ensures.answer c.in_ok-sums.ensures.answer long c.in_ok-conditions.ensures.answer;
+      room = guard_room c.args.bytes.now c.args.place c.args.at c.length.result c.in_ok-counter.counter _ _ long c.in_ok-conditions.ensures.room;
     }

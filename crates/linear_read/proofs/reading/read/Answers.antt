@@ -7,28 +7,28 @@ use Rattle.linear.proofs.Wholes.{read_whole}
 use Rattle.linear_read.proofs.Composed.{leaves_ok, leaves_err, read_rules}
 use Rattle.linear_read.proofs.reading.read.Goals as goal
 
-pub returns-in-err-equation : goal.returns-in-err-equation
-returns-in-err-equation c =
+pub returns-in_err-equation : goal.returns-in_err-equation
+returns-in_err-equation c =
     let bytes = c.args.bytes.now in
-    let p = err_from_is_err_and c.from-residual.result c.from-residual.ensures.1 in
-    let is = c.in-err-equation.ensures.answer in
+    let p = err_from_is_err_and c.from_residual.result c.from_residual.ensures.1 in
+    let is = c.in_err-equation.ensures.answer in
     let answer = p.1 ∙ (ap Err p.2 ∙ sym (ap answer_of is)) in
     record {
       answer = answer;
       leaves = leaves_err (λ (e : Equation). equation_of e.table) (linear_file bytes) _ _ _ is refl;
-      rules = read_rules bytes (λ i. omega (arith, c.type-inv.bytes i)) _ answer;
-      trips = IfOk-from_err _ _ c.from-residual.ensures.0;
+      rules = read_rules bytes (λ i. omega (arith, c.type_inv.bytes i)) _ answer;
+      trips = IfOk-from_err _ _ c.from_residual.ensures.0;
     }
 
 pub returns : goal.returns
 returns c =
     let bytes = c.args.bytes.now in
-    let is = c.in-ok-equation.ensures.answer in
-    let e = equation_of c.in-ok-equation.equation.table in
+    let is = c.in_ok-equation.ensures.answer in
+    let e = equation_of c.in_ok-equation.equation.table in
     let answer = sym (ap answer_of is) in
     record {
       answer = answer;
-      leaves = leaves_ok (λ (e : Equation). equation_of e.table) (linear_file bytes) e _ c.in-ok-equation.equation is refl;
-      rules = read_rules bytes (λ i. omega (arith, c.type-inv.bytes i)) (Ok tt) answer;
-      trips = sym (read_whole bytes (λ i. omega (arith, c.type-inv.bytes i)) e is).1;
+      leaves = leaves_ok (λ (e : Equation). equation_of e.table) (linear_file bytes) e _ c.in_ok-equation.equation is refl;
+      rules = read_rules bytes (λ i. omega (arith, c.type_inv.bytes i)) (Ok tt) answer;
+      trips = sym (read_whole bytes (λ i. omega (arith, c.type_inv.bytes i)) e is).1;
     }

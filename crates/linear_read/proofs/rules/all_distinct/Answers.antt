@@ -5,18 +5,18 @@ use Rattle.linear.specs.Tables.{list_of}
 use Rattle.linear.proofs.Left.{distinct_more, distinct_stop}
 use Rattle.linear_read.proofs.rules.all_distinct.Goals as goal
 
-pub returns-then-member-from : goal.returns-then-member-from
-returns-then-member-from c =
+pub returns-then-member_from : goal.returns-then-member_from
+returns-then-member_from c =
     let xs = list_of c.args.list.now in
     let i = c.loop-i.i in
-    let is = ap (λ w. member w (drop (i + 1) xs)) (sym c.word.ensures.answer) ∙ (sym c.member-from.ensures.answer ∙ c.if-member-from.true) in
+    let is = ap (λ w. member w (drop (i + 1) xs)) (sym c.word.ensures.answer) ∙ (sym c.member_from.ensures.answer ∙ c.if-member_from.true) in
     record { answer = sym (c.loop-i.invariant ∙ distinct_stop xs i (omega arith) is) }
 
 pub loop-i-preserved : goal.loop-i-preserved
 loop-i-preserved c =
     let xs = list_of c.args.list.now in
     let i = c.loop-i.i in
-    let is = ap (λ w. member w (drop (i + 1) xs)) (sym c.word.ensures.answer) ∙ (sym c.member-from.ensures.answer ∙ c.if-member-from.false) in
+    let is = ap (λ w. member w (drop (i + 1) xs)) (sym c.word.ensures.answer) ∙ (sym c.member_from.ensures.answer ∙ c.if-member_from.false) in
     c.loop-i.invariant ∙ distinct_more xs i (omega arith) is
 
 pub returns : goal.returns

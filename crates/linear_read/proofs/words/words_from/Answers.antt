@@ -1,4 +1,4 @@
-use Rattle.std.proofs.Common.{◌≡◌, [], ◌∷◌, ◌++◌, length, sym, ap, ◌∙◌, arith, length-set, rules}
+use Rattle.std.proofs.Common.{arith, length-set, rules}
 use Rattle.std.proofs.lemmas.List.{take_more_set, length-take-le}
 use Rattle.linear.proofs.Words.{words_more}
 use Rattle.linear_read.proofs.words.words_from.Goals as goal
@@ -8,7 +8,7 @@ loop-i-preserved c =
     let bytes = c.args.bytes.now in
     let i = c.loop-i.i in
     let more = words_more bytes c.args.at i in
-    let set = take_more_set c.loop-i.items i c.word-at.result (omega arith) in
+    let set = take_more_set c.loop-i.items i c.word_at.result (omega arith) in
     (simp length-set c.loop-i.invariant.0, cc)
 
 pub returns : goal.returns

@@ -1,4 +1,4 @@
-use Rattle.std.proofs.Common.{◌≡◌, ◌*◌, length, ap, ◌∙◌, arith}
+use Rattle.std.proofs.Common.{◌*◌, length, ap, ◌∙◌, arith}
 use Rattle.std.specs.List.{flat_map}
 use Rattle.linear.specs.Layout.{rate_words, summand_words}
 use Rattle.linear.specs.Tables.{delay_of, equation_of}
@@ -15,4 +15,4 @@ pub returns : goal.returns
 returns c =
     let xs = (equation_of c.args.table.now).delays in
     let few = c.args.table.now.few_delays in
-    record { answer = c.loop-summand.invariant.1 ∙ ap (λ ys. 2 * length (flat_map (summand_words rate_words) ys)) (take_end xs c.loop-summand.k c.in-default.ensures.answer); small = omega arith }
+    record { answer = c.loop-summand.invariant.1 ∙ ap (λ ys. 2 * length (flat_map (summand_words rate_words) ys)) (take_end xs c.loop-summand.k c.in_default.ensures.answer); small = omega arith }

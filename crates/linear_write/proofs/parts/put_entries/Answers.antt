@@ -1,4 +1,4 @@
-use Rattle.std.proofs.Common.{◌≡◌, ◌+◌, ◌*◌, length, take, sym, ap, ◌∙◌, arith}
+use Rattle.std.proofs.Common.{◌+◌, ◌*◌, take, ap, ◌∙◌, arith}
 use Rattle.std.specs.List.{flat_map}
 use Rattle.std.proofs.lemmas.List.{take_all, length-take-le}
 use Rattle.linear.specs.Layout.{entry_words}
@@ -16,7 +16,7 @@ loop-i-preserved c =
     let es = entries_of c.args.entries.now in
     let long = length_entries (take i es) in
     let few = length-take-le i es (omega arith) in
-    c.put-entry.ensures.leaves
+    c.put_entry.ensures.leaves
     ∙ ap (λ b. laid b (at + 4 * i) (entry_words c.entry.result)) c.loop-i.invariant
     ∙ ap (λ e. laid (laid out at (flat_map entry_words (take i es))) (at + 4 * i) (entry_words e)) c.entry.ensures.answer
     ∙ laid_row entry_words out es Reset at (at + 4 * i) i (omega arith) (omega arith)

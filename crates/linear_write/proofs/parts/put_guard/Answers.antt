@@ -1,4 +1,4 @@
-use Rattle.std.proofs.Common.{◌≡◌, ◌+◌, sym, ap, ◌∙◌, arith, length-append}
+use Rattle.std.proofs.Common.{◌+◌, sym, ap, ◌∙◌, arith, length-append}
 use Rattle.words.specs.Put.{put_word}
 use Rattle.linear.specs.Layout.{counted}
 use Rattle.linear.specs.Tables.{list_of}
@@ -6,11 +6,11 @@ use Rattle.linear_write.specs.Laid.{laid}
 use Rattle.linear_write.proofs.Laying.{laid_then}
 use Rattle.linear_write.proofs.parts.put_guard.Goals as goal
 
-pub put-list-rest-requires : goal.put-list-rest-requires
-put-list-rest-requires c = let long = length-append (counted (list_of c.args.guard.now.sums)) (counted (list_of c.args.guard.now.conditions)) in omega arith
+pub put_list-rest-requires : goal.put_list-rest-requires
+put_list-rest-requires c = let long = length-append (counted (list_of c.args.guard.now.sums)) (counted (list_of c.args.guard.now.conditions)) in omega arith
 
-pub put-list-requires : goal.put-list-requires
-put-list-requires c = let long = length-append (counted (list_of c.args.guard.now.sums)) (counted (list_of c.args.guard.now.conditions)) in omega arith
+pub put_list-requires : goal.put_list-requires
+put_list-requires c = let long = length-append (counted (list_of c.args.guard.now.sums)) (counted (list_of c.args.guard.now.conditions)) in omega arith
 
 pub returns : goal.returns
 returns c =
@@ -19,10 +19,10 @@ returns c =
     let g = c.args.guard.now in
     let xs = counted (list_of g.sums) in
     let es = counted (list_of g.conditions) in
-    let rest = c.put-list-rest.result in
+    let rest = c.put_list-rest.result in
     let first = put_word out at g.counter in
     let long = length-append xs es in
     record {
       answer = omega arith;
-      leaves = c.put-list.ensures.leaves ∙ (ap (λ b. laid b rest es) (c.put-list-rest.ensures.leaves ∙ ap (λ b. laid b (at + 2) xs) c.put-word.ensures.leaves) ∙ sym (laid_then first xs es (at + 2) rest c.put-list-rest.ensures.answer));
+      leaves = c.put_list.ensures.leaves ∙ (ap (λ b. laid b rest es) (c.put_list-rest.ensures.leaves ∙ ap (λ b. laid b (at + 2) xs) c.put_word.ensures.leaves) ∙ sym (laid_then first xs es (at + 2) rest c.put_list-rest.ensures.answer));
     }

@@ -1,4 +1,4 @@
-use Rattle.std.proofs.Common.{◌≡◌, ◌+◌, ◌*◌, take, sym, ap, ◌∙◌, arith}
+use Rattle.std.proofs.Common.{◌+◌, ◌*◌, take, ap, ◌∙◌, arith}
 use Rattle.std.proofs.lemmas.List.{take_all}
 use Rattle.words.specs.Put.{put_word}
 use Rattle.linear.specs.Tables.{list_of}
@@ -12,7 +12,7 @@ loop-i-preserved c =
     let at = c.args.at in
     let i = c.loop-i.i in
     let xs = list_of c.args.list.now in
-    c.put-word.ensures.leaves
+    c.put_word.ensures.leaves
     ∙ ap (λ b. put_word b (at + 2 * i) c.word.result) c.loop-i.invariant
     ∙ ap (put_word (laid out at (take i xs)) (at + 2 * i)) c.word.ensures.answer
     ∙ laid_more out xs at i (omega arith)

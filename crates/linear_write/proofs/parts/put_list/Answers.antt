@@ -1,4 +1,4 @@
-use Rattle.std.proofs.Common.{◌≡◌, ◌+◌, sym, ap, ◌∙◌, arith}
+use Rattle.std.proofs.Common.{◌+◌, ap, ◌∙◌, arith}
 use Rattle.words.specs.Put.{put_word}
 use Rattle.linear.specs.Tables.{list_of}
 use Rattle.linear_write.specs.Laid.{laid}
@@ -10,5 +10,5 @@ returns c =
     let xs = list_of c.args.list.now in
     record {
       answer = omega arith;
-      leaves = c.put-items.ensures.leaves ∙ (ap (λ b. laid b (at + 2) xs) c.put-word.ensures.leaves ∙ ap (λ n. laid (put_word c.args.out.now at n) (at + 2) xs) c.length.ensures.answer);
+      leaves = c.put_items.ensures.leaves ∙ (ap (λ b. laid b (at + 2) xs) c.put_word.ensures.leaves ∙ ap (λ n. laid (put_word c.args.out.now at n) (at + 2) xs) c.length.ensures.answer);
     }

@@ -1,6 +1,5 @@
-use Rattle.std.proofs.Common.{◌≡◌, ◌+◌, ◌≤◌, length, take, sym, ap, ◌∙◌, arith, rules}
+use Rattle.std.proofs.Common.{◌≤◌, length, ap, ◌∙◌, arith}
 use Rattle.std.specs.List.{flat_map}
-use Rattle.words.specs.Put.{put_word}
 use Rattle.linear.specs.Layout.{rate_words, summand_words}
 use Rattle.linear.specs.Reading.{past}
 use Rattle.linear.specs.Tables.{delay_of, equation_of}
@@ -20,20 +19,20 @@ loop-summand-preserved c =
     let inv = c.loop-summand.invariant in
     let opened = ap length c.open-waiting.ensures.leaves ∙ length_put c.args.writer.now.out.now c.args.writer.now.length 0 in
     let room : past w.length (f x) ≤ length w.out.now = more_room f xs k x is start.out.now start.length w.out.now w.length inv.5 inv.6 (length w.out.now) (omega arith) in
-    let added = c.add-delay.ensures.leaves room in
+    let added = c.add_delay.ensures.leaves room in
     let few = c.in-Some.ensures.room in
     let kept = ap length added.1 ∙ length_laid w.out.now w.length (f x) in (
       omega arith,
       omega arith,
-      c.add-delay.ensures.same.1 ∙ inv.2,
+      c.add_delay.ensures.same.1 ∙ inv.2,
       kept ∙ inv.3,
-      c.add-delay.ensures.same.0 ∙ inv.4,
+      c.add_delay.ensures.same.0 ∙ inv.4,
       more_long f xs k x is start.out.now start.length w.out.now w.length inv.5 inv.6 _ added.2,
       more_laid f xs k x is start.out.now start.length w.out.now w.length inv.5 inv.6 _ added.1,
     )
 
-pub add-delay-requires : goal.add-delay-requires
-add-delay-requires c =
+pub add_delay-requires : goal.add_delay-requires
+add_delay-requires c =
     let xs = (equation_of c.args.table.now).delays in
     let f = summand_words rate_words in
     let k = c.loop-summand.k in
@@ -57,8 +56,8 @@ returns c =
     let start = c.open-waiting.new.self in
     let w = c.loop-summand.writer in
     let inv = c.loop-summand.invariant in
-    let ended = take_end xs k c.in-default.ensures.answer in
-    let last = c.in-default.ensures.room in
+    let ended = take_end xs k c.in_default.ensures.answer in
+    let last = c.in_default.ensures.room in
     let many = front_length delay_of t.delays t.delay_count (omega arith) in
     let filled = inv.6 ∙ ap (λ ys. laid start.out.now start.length (flat_map f ys)) ended in
     let long = inv.5 ∙ ap (λ ys. past start.length (flat_map f ys)) ended in

@@ -1,25 +1,25 @@
-use Rattle.std.proofs.Common.{◌≡◌, ◌++◌, sym, ap, ◌∙◌, arith, length-append}
+use Rattle.std.proofs.Common.{◌++◌, sym, ap, ◌∙◌, arith, length-append}
 use Rattle.linear.specs.Layout.{guard_words, acts_words, leads_words}
 use Rattle.linear.specs.Tables.{guard_of, act_of, target_of}
 use Rattle.linear_write.specs.Laid.{laid}
 use Rattle.linear_write.proofs.Laying.{laid_then}
 use Rattle.linear_write.proofs.summands.put_action.Goals as goal
 
-pub put-guard-act-requires : goal.put-guard-act-requires
-put-guard-act-requires c =
+pub put_guard-act-requires : goal.put_guard-act-requires
+put_guard-act-requires c =
     let s = c.args.summand.now in
     let one = length-append (guard_words (guard_of s.guard)) (acts_words (act_of s.act) ++ leads_words (target_of s.target)) in
     omega arith
 
-pub put-act-target-requires : goal.put-act-target-requires
-put-act-target-requires c =
+pub put_act-target-requires : goal.put_act-target-requires
+put_act-target-requires c =
     let s = c.args.summand.now in
     let one = length-append (guard_words (guard_of s.guard)) (acts_words (act_of s.act) ++ leads_words (target_of s.target)) in
     let two = length-append (acts_words (act_of s.act)) (leads_words (target_of s.target)) in
     omega arith
 
-pub put-target-requires : goal.put-target-requires
-put-target-requires c =
+pub put_target-requires : goal.put_target-requires
+put_target-requires c =
     let s = c.args.summand.now in
     let one = length-append (guard_words (guard_of s.guard)) (acts_words (act_of s.act) ++ leads_words (target_of s.target)) in
     let two = length-append (acts_words (act_of s.act)) (leads_words (target_of s.target)) in
@@ -35,13 +35,13 @@ returns c =
     let tw = leads_words (target_of s.target) in
     let one = length-append gw (aw ++ tw) in
     let two = length-append aw tw in
-    let p = c.put-guard-act.result in
-    let q = c.put-act-target.result in
+    let p = c.put_guard-act.result in
+    let q = c.put_act-target.result in
     record {
       answer = omega arith;
       leaves =
-          c.put-target.ensures.leaves
-          ∙ ap (λ b. laid b q tw) (c.put-act-target.ensures.leaves ∙ ap (λ b. laid b p aw) c.put-guard-act.ensures.leaves)
-          ∙ sym (laid_then (laid out at gw) aw tw p q c.put-act-target.ensures.answer)
-          ∙ sym (laid_then out gw (aw ++ tw) at p c.put-guard-act.ensures.answer);
+          c.put_target.ensures.leaves
+          ∙ ap (λ b. laid b q tw) (c.put_act-target.ensures.leaves ∙ ap (λ b. laid b p aw) c.put_guard-act.ensures.leaves)
+          ∙ sym (laid_then (laid out at gw) aw tw p q c.put_act-target.ensures.answer)
+          ∙ sym (laid_then out gw (aw ++ tw) at p c.put_guard-act.ensures.answer);
     }

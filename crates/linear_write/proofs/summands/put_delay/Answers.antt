@@ -1,25 +1,25 @@
-use Rattle.std.proofs.Common.{◌≡◌, ◌++◌, sym, ap, ◌∙◌, arith, length-append}
+use Rattle.std.proofs.Common.{◌++◌, sym, ap, ◌∙◌, arith, length-append}
 use Rattle.linear.specs.Layout.{guard_words, rate_words, leads_words}
 use Rattle.linear.specs.Tables.{guard_of, target_of}
 use Rattle.linear_write.specs.Laid.{laid}
 use Rattle.linear_write.proofs.Laying.{laid_then}
 use Rattle.linear_write.proofs.summands.put_delay.Goals as goal
 
-pub put-guard-rate-requires : goal.put-guard-rate-requires
-put-guard-rate-requires c =
+pub put_guard-rate-requires : goal.put_guard-rate-requires
+put_guard-rate-requires c =
     let s = c.args.summand.now in
     let one = length-append (guard_words (guard_of s.guard)) (rate_words s.rate ++ leads_words (target_of s.target)) in
     omega arith
 
-pub put-rate-target-requires : goal.put-rate-target-requires
-put-rate-target-requires c =
+pub put_rate-target-requires : goal.put_rate-target-requires
+put_rate-target-requires c =
     let s = c.args.summand.now in
     let one = length-append (guard_words (guard_of s.guard)) (rate_words s.rate ++ leads_words (target_of s.target)) in
     let two = length-append (rate_words s.rate) (leads_words (target_of s.target)) in
     omega arith
 
-pub put-target-requires : goal.put-target-requires
-put-target-requires c =
+pub put_target-requires : goal.put_target-requires
+put_target-requires c =
     let s = c.args.summand.now in
     let one = length-append (guard_words (guard_of s.guard)) (rate_words s.rate ++ leads_words (target_of s.target)) in
     let two = length-append (rate_words s.rate) (leads_words (target_of s.target)) in
@@ -35,13 +35,13 @@ returns c =
     let tw = leads_words (target_of s.target) in
     let one = length-append gw (aw ++ tw) in
     let two = length-append aw tw in
-    let p = c.put-guard-rate.result in
-    let q = c.put-rate-target.result in
+    let p = c.put_guard-rate.result in
+    let q = c.put_rate-target.result in
     record {
       answer = omega arith;
       leaves =
-          c.put-target.ensures.leaves
-          ∙ ap (λ b. laid b q tw) (c.put-rate-target.ensures.leaves ∙ ap (λ b. laid b p aw) c.put-guard-rate.ensures.leaves)
-          ∙ sym (laid_then (laid out at gw) aw tw p q c.put-rate-target.ensures.answer)
-          ∙ sym (laid_then out gw (aw ++ tw) at p c.put-guard-rate.ensures.answer);
+          c.put_target.ensures.leaves
+          ∙ ap (λ b. laid b q tw) (c.put_rate-target.ensures.leaves ∙ ap (λ b. laid b p aw) c.put_guard-rate.ensures.leaves)
+          ∙ sym (laid_then (laid out at gw) aw tw p q c.put_rate-target.ensures.answer)
+          ∙ sym (laid_then out gw (aw ++ tw) at p c.put_guard-rate.ensures.answer);
     }

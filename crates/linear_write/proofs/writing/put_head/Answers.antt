@@ -6,14 +6,14 @@ use Rattle.linear_write.specs.Laid.{laid}
 use Rattle.linear_write.proofs.Laying.{laid_then}
 use Rattle.linear_write.proofs.writing.put_head.Goals as goal
 
-pub put-list-rest-requires : goal.put-list-rest-requires
-put-list-rest-requires c =
+pub put_list-rest-requires : goal.put_list-rest-requires
+put_list-rest-requires c =
     let t = c.args.table.now in
     let long = length-append (counted (list_of t.sizes)) (t.counters ∷ (t.start ∷ list_of t.values)) in
     omega arith
 
-pub put-items-requires : goal.put-items-requires
-put-items-requires c =
+pub put_items-requires : goal.put_items-requires
+put_items-requires c =
     let t = c.args.table.now in
     let long = length-append (counted (list_of t.sizes)) (t.counters ∷ (t.start ∷ list_of t.values)) in
     omega arith
@@ -24,14 +24,14 @@ returns c =
     let t = c.args.table.now in
     let xs = counted (list_of t.sizes) in
     let vs = list_of t.values in
-    let rest = c.put-list-rest.result in
+    let rest = c.put_list-rest.result in
     let long = length-append xs (t.counters ∷ (t.start ∷ vs)) in
     let on : rest + 4 ≡ rest + 2 + 2 = omega arith in
     record {
       answer = omega arith;
       leaves =
-          c.put-items.ensures.leaves
-          ∙ ap (λ b. laid b (rest + 4) vs) (c.put-word-2.ensures.leaves ∙ ap (λ b. put_word b (rest + 2) t.start) (c.put-word.ensures.leaves ∙ ap (λ b. put_word b rest t.counters) c.put-list-rest.ensures.leaves))
+          c.put_items.ensures.leaves
+          ∙ ap (λ b. laid b (rest + 4) vs) (c.put_word-2.ensures.leaves ∙ ap (λ b. put_word b (rest + 2) t.start) (c.put_word.ensures.leaves ∙ ap (λ b. put_word b rest t.counters) c.put_list-rest.ensures.leaves))
           ∙ ap (λ n. laid (put_word (put_word (laid out 5 xs) rest t.counters) (rest + 2) t.start) n vs) on
-          ∙ sym (laid_then out xs (t.counters ∷ (t.start ∷ vs)) 5 rest c.put-list-rest.ensures.answer);
+          ∙ sym (laid_then out xs (t.counters ∷ (t.start ∷ vs)) 5 rest c.put_list-rest.ensures.answer);
     }

@@ -1,4 +1,4 @@
 use Rattle.model_rules.proofs.ways.+ways_fit.Given as goal
 
-abbrev pub decreases-ways-fit : goal.decreases-ways-fit
-decreases-ways-fit l = l.steps
+abbrev pub decreases-ways_fit : goal.decreases-ways_fit
+decreases-ways_fit l = l.steps

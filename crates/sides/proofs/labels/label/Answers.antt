@@ -1,6 +1,6 @@
 use Rattle.std.proofs.Common.{ℕ, get_or, refl, ap, ◌∙◌, arith}
 use Rattle.valuation.specs.Valuations.{listed}
-use Rattle.sides.proofs.Padded.{put_next, front_four, label_is}
+use Rattle.sides.proofs.Padded.{put_next, label_is}
 use Rattle.sides.proofs.labels.label.Goals as goal
 
 pub loop-i-init : goal.loop-i-init

@@ -1,6 +1,5 @@
-use Rattle.std.proofs.Common.{◌≡◌, ℕ, ◌+◌, ◌-◌, ◌<◌, ◌≤◌, Bool, false, length, get_or, sym, refl, ap, ◌∙◌, arith, length-set, rules}
+use Rattle.std.proofs.Common.{◌-◌, ◌≤◌, false, get_or, sym, refl, ap, ◌∙◌, arith, length-set}
 use Rattle.language.specs.Meanings.{nothing}
-use Rattle.model_file.specs.Layouts.{layout_of}
 use Rattle.model.specs.Flat.{flat}
 use Rattle.model.specs.Trees.{tree_of}
 use Rattle.source.specs.Free.{bound}
@@ -13,7 +12,7 @@ pub loop-node-init : goal.loop-node-init
 loop-node-init c =
     let bs = c.args.model.now.bytes.now in
     let G = flat bs in
-    (refl, omega (arith, c.node-count-node.ensures.answer), λ k l. falses 256 k ∙ sym (ap (λ t. bound t c.args.variable) (tree_past G k (omega (arith, c.node-count-node.ensures.answer)))))
+    (refl, omega (arith, c.node_count-node.ensures.answer), λ k l. falses 256 k ∙ sym (ap (λ t. bound t c.args.variable) (tree_past G k (omega (arith, c.node_count-node.ensures.answer)))))
 
 pub bounds-bound-node : goal.bounds-bound-node
 bounds-bound-node c =
@@ -29,6 +28,6 @@ loop-node-preserved c =
     let n = c.loop-node.node in (
       length-set _ _ _ ∙ c.loop-node.invariant.0,
       omega (arith, c.loop-node.invariant.1),
-      flags_more (λ k. bound (tree_of G k) c.args.variable) c.loop-node.bound n (n - 1) c.bound-at-here.result (omega arith) (omega (arith, c.loop-node.invariant.0)) c.loop-node.invariant.2
-          (c.bound-at-here.ensures.answer ∙ bound_at nothing G c.args.variable (all_rise bs c.args.model.now.lawful) (n - 1) (omega (arith, c.loop-node.invariant.1)) (λ k. get_or c.loop-node.bound k false) (λ k l. c.loop-node.invariant.2 k (omega arith))),
+      flags_more (λ k. bound (tree_of G k) c.args.variable) c.loop-node.bound n (n - 1) c.bound_at-here.result (omega arith) (omega (arith, c.loop-node.invariant.0)) c.loop-node.invariant.2
+          (c.bound_at-here.ensures.answer ∙ bound_at nothing G c.args.variable (all_rise bs c.args.model.now.lawful) (n - 1) (omega (arith, c.loop-node.invariant.1)) (λ k. get_or c.loop-node.bound k false) (λ k l. c.loop-node.invariant.2 k (omega arith))),
     )

@@ -1,5 +1,4 @@
-use Rattle.std.proofs.Common.{◌≡◌, ℕ, ◌+◌, ◌-◌, ◌<◌, ◌≤◌, Bool, false, length, get_or, sym, refl, ap, ◌∙◌, arith, length-set, rules}
-use Rattle.model_file.specs.Layouts.{layout_of}
+use Rattle.std.proofs.Common.{◌-◌, ◌≤◌, false, get_or, sym, refl, ap, ◌∙◌, arith, length-set}
 use Rattle.model.specs.Flat.{flat}
 use Rattle.model.specs.Trees.{tree_of}
 use Rattle.source.specs.Free.{named}
@@ -13,7 +12,7 @@ loop-node-init g c =
     let bs = c.args.model.now.bytes.now in
     let G = flat bs in
     let L = g.L.Language.meaning c.args.language.now in
-    (refl, omega (arith, c.node-count-node.ensures.answer), λ k l. falses 256 k ∙ sym (ap (λ t. named L t c.args.variable) (tree_past G k (omega (arith, c.node-count-node.ensures.answer)))))
+    (refl, omega (arith, c.node_count-node.ensures.answer), λ k l. falses 256 k ∙ sym (ap (λ t. named L t c.args.variable) (tree_past G k (omega (arith, c.node_count-node.ensures.answer)))))
 
 pub bounds-named-node : goal.bounds-named-node
 bounds-named-node g c =
@@ -30,6 +29,6 @@ loop-node-preserved g c =
     let n = c.loop-node.node in (
       length-set _ _ _ ∙ c.loop-node.invariant.0,
       omega (arith, c.loop-node.invariant.1),
-      flags_more (λ k. named L (tree_of G k) c.args.variable) c.loop-node.named n (n - 1) c.named-at-here.result (omega arith) (omega (arith, c.loop-node.invariant.0)) c.loop-node.invariant.2
-          (c.named-at-here.ensures.answer ∙ named_at L G c.args.variable (all_rise bs c.args.model.now.lawful) (n - 1) (omega (arith, c.loop-node.invariant.1)) (λ k. get_or c.loop-node.named k false) (λ k l. c.loop-node.invariant.2 k (omega arith))),
+      flags_more (λ k. named L (tree_of G k) c.args.variable) c.loop-node.named n (n - 1) c.named_at-here.result (omega arith) (omega (arith, c.loop-node.invariant.0)) c.loop-node.invariant.2
+          (c.named_at-here.ensures.answer ∙ named_at L G c.args.variable (all_rise bs c.args.model.now.lawful) (n - 1) (omega (arith, c.loop-node.invariant.1)) (λ k. get_or c.loop-node.named k false) (λ k l. c.loop-node.invariant.2 k (omega arith))),
     )

@@ -1,4 +1,4 @@
-use Rattle.std.proofs.Common.{◌≡◌, ℕ, ltb, length, sym, refl, ap, ◌∙◌, arith, rules}
+use Rattle.std.proofs.Common.{◌≡◌, ltb, sym, refl, ap, ◌∙◌, arith}
 use Rattle.std.specs.List.{slice_get}
 use Rattle.model_file.specs.Fields.{process_count}
 use Rattle.model_file.specs.Layouts.{layout_of}
@@ -13,15 +13,15 @@ use Rattle.source.proofs.places.body_nodes.Goals as goal
 pub loop-process-init : goal.loop-process-init
 loop-process-init c =
     let bs = c.args.model.now.bytes.now in
-    (refl, λ n l. marks_start (λ j. body_is (slice_get (flat bs).processes j) n) c.process-count-count.result n)
+    (refl, λ n l. marks_start (λ j. body_is (slice_get (flat bs).processes j) n) c.process_count-count.result n)
 
 pub loop-process-preserved : goal.loop-process-preserved
 loop-process-preserved c =
     let bs = c.args.model.now.bytes.now in
-    (omega (arith, c.mark-body.auto.flags, c.loop-process.invariant.0), λ n l. marks_on (λ j. body_is (slice_get (flat bs).processes j) n) c.process-count-count.result c.loop-process.process _ _ _ (omega arith) (c.loop-process.invariant.1 n l) (c.mark-body.ensures.leaves n (omega (arith, c.loop-process.invariant.0))))
+    (omega (arith, c.mark_body.auto.flags, c.loop-process.invariant.0), λ n l. marks_on (λ j. body_is (slice_get (flat bs).processes j) n) c.process_count-count.result c.loop-process.process _ _ _ (omega arith) (c.loop-process.invariant.1 n l) (c.mark_body.ensures.leaves n (omega (arith, c.loop-process.invariant.0))))
 
 pub returns : goal.returns
 returns c =
     let bs = c.args.model.now.bytes.now in
-    let k : c.process-count-count.result ≡ process_count bs (layout_of bs) = c.process-count-count.ensures.answer ∙ sym (numbered_length (process_of bs (layout_of bs)) (process_count bs (layout_of bs))) in
-    record { answer = λ n l. marks_end (λ j. body_is (slice_get (flat bs).processes j) n) c.process-count-count.result c.loop-process.process _ _ (omega arith) (c.loop-process.invariant.1 n l) ∙ ap (λ m. ltb 0 (total (λ j. one (body_is (slice_get (flat bs).processes j) n)) m 0)) k ∙ ap (ltb 0) (bodies_all bs c.args.model.now.lawful n) }
+    let k : c.process_count-count.result ≡ process_count bs (layout_of bs) = c.process_count-count.ensures.answer ∙ sym (numbered_length (process_of bs (layout_of bs)) (process_count bs (layout_of bs))) in
+    record { answer = λ n l. marks_end (λ j. body_is (slice_get (flat bs).processes j) n) c.process_count-count.result c.loop-process.process _ _ (omega arith) (c.loop-process.invariant.1 n l) ∙ ap (λ m. ltb 0 (total (λ j. one (body_is (slice_get (flat bs).processes j) n)) m 0)) k ∙ ap (ltb 0) (bodies_all bs c.args.model.now.lawful n) }

@@ -1,4 +1,4 @@
-use Rattle.std.proofs.Common.{◌≡◌, ℕ, ltb, length, sym, refl, ap, ◌∙◌, arith, rules}
+use Rattle.std.proofs.Common.{◌≡◌, ltb, sym, refl, ap, ◌∙◌, arith}
 use Rattle.model_file.specs.Fields.{node_count}
 use Rattle.model_file.specs.Layouts.{layout_of}
 use Rattle.model_rules.specs.Tallies.{one, total}
@@ -13,15 +13,15 @@ use Rattle.source.proofs.places.moved_nodes.Goals as goal
 pub loop-node-init : goal.loop-node-init
 loop-node-init c =
     let bs = c.args.model.now.bytes.now in
-    (refl, λ n l. marks_start (λ j. leads_to (node_in (flat bs) j) n) c.node-count-count.result n)
+    (refl, λ n l. marks_start (λ j. leads_to (node_in (flat bs) j) n) c.node_count-count.result n)
 
 pub loop-node-preserved : goal.loop-node-preserved
 loop-node-preserved c =
     let bs = c.args.model.now.bytes.now in
-    (omega (arith, c.mark-child.auto.flags, c.loop-node.invariant.0), λ n l. marks_on (λ j. leads_to (node_in (flat bs) j) n) c.node-count-count.result c.loop-node.node _ _ _ (omega arith) (c.loop-node.invariant.1 n l) (c.mark-child.ensures.leaves n (omega (arith, c.loop-node.invariant.0))))
+    (omega (arith, c.mark_child.auto.flags, c.loop-node.invariant.0), λ n l. marks_on (λ j. leads_to (node_in (flat bs) j) n) c.node_count-count.result c.loop-node.node _ _ _ (omega arith) (c.loop-node.invariant.1 n l) (c.mark_child.ensures.leaves n (omega (arith, c.loop-node.invariant.0))))
 
 pub returns : goal.returns
 returns c =
     let bs = c.args.model.now.bytes.now in
-    let k : c.node-count-count.result ≡ node_count bs (layout_of bs) = c.node-count-count.ensures.answer ∙ sym (numbered_length (node_of bs (layout_of bs)) (node_count bs (layout_of bs))) in
-    record { answer = λ n l. marks_end (λ j. leads_to (node_in (flat bs) j) n) c.node-count-count.result c.loop-node.node _ _ (omega arith) (c.loop-node.invariant.1 n l) ∙ ap (λ m. ltb 0 (total (λ j. one (leads_to (node_in (flat bs) j) n)) m 0)) k ∙ ap (ltb 0) (children_all bs c.args.model.now.lawful n) }
+    let k : c.node_count-count.result ≡ node_count bs (layout_of bs) = c.node_count-count.ensures.answer ∙ sym (numbered_length (node_of bs (layout_of bs)) (node_count bs (layout_of bs))) in
+    record { answer = λ n l. marks_end (λ j. leads_to (node_in (flat bs) j) n) c.node_count-count.result c.loop-node.node _ _ (omega arith) (c.loop-node.invariant.1 n l) ∙ ap (λ m. ltb 0 (total (λ j. one (leads_to (node_in (flat bs) j) n)) m 0)) k ∙ ap (ltb 0) (children_all bs c.args.model.now.lawful n) }

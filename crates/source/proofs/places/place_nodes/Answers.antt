@@ -1,5 +1,4 @@
-use Rattle.std.proofs.Common.{◌≡◌, ℕ, ◌<◌, Bool, false, not, ◌&&◌, ◌||◌, length, get_or, sym, refl, ap, ◌∙◌, ap₂, arith, length-set}
-use Rattle.model_file.specs.Layouts.{layout_of}
+use Rattle.std.proofs.Common.{false, not, ◌&&◌, ◌||◌, get_or, ap, ◌∙◌, ap₂, arith, length-set}
 use Rattle.model.specs.Flat.{flat}
 use Rattle.model.specs.Nodes.{node_in}
 use Rattle.source.specs.Counters.{calling}
@@ -11,11 +10,11 @@ use Rattle.source.proofs.places.place_nodes.Goals as goal
 pub loop-node-preserved : goal.loop-node-preserved
 loop-node-preserved c =
     let bs = c.args.model.now.bytes.now in
-    let bodies = c.body-nodes-bodies.result in
-    let moved = c.moved-nodes-moved.result in (
+    let bodies = c.body_nodes-bodies.result in
+    let moved = c.moved_nodes-moved.result in (
       length-set _ _ _ ∙ c.loop-node.invariant.0,
       flags_next (λ n. get_or bodies n false || (get_or moved n false && not (calling (node_in (flat bs) n)))) c.loop-node.places c.loop-node.node _ (omega (arith, c.loop-node.invariant.0)) c.loop-node.invariant.1
-          (ap (λ b. get_or bodies c.loop-node.node false || (get_or moved c.loop-node.node false && not b)) c.is-call.ensures.answer),
+          (ap (λ b. get_or bodies c.loop-node.node false || (get_or moved c.loop-node.node false && not b)) c.is_call.ensures.answer),
     )
 
 pub returns : goal.returns
@@ -25,6 +24,6 @@ returns c =
     record {
       answer = λ n l.
           c.loop-node.invariant.1 n (omega (arith, node_number bs law, few_nodes bs law))
-          ∙ ap₂ ◌||◌ (c.body-nodes-bodies.ensures.answer n (omega (arith, node_number bs law, few_nodes bs law)))
-          (ap₂ (λ a b. a && not b) (c.moved-nodes-moved.ensures.answer n (omega (arith, node_number bs law, few_nodes bs law))) (call_hit bs law n (omega (arith, node_number bs law))));
+          ∙ ap₂ ◌||◌ (c.body_nodes-bodies.ensures.answer n (omega (arith, node_number bs law, few_nodes bs law)))
+          (ap₂ (λ a b. a && not b) (c.moved_nodes-moved.ensures.answer n (omega (arith, node_number bs law, few_nodes bs law))) (call_hit bs law n (omega (arith, node_number bs law))));
     }

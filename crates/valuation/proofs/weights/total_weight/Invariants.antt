@@ -1,4 +1,4 @@
-use Rattle.std.proofs.Common.{◌≡◌, ℕ, ◌*◌, ◌≤◌, set, sum_by}
+use Rattle.std.proofs.Common.{◌≡◌, ◌*◌, ◌≤◌, set, sum_by}
 use Rattle.std.specs.List.{range_with_len}
 use Rattle.valuation.specs.Valuations.{listed}
 use Rattle.valuation.proofs.weights.total_weight.Given as goal

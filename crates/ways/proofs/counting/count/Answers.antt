@@ -4,8 +4,8 @@ use Rattle.ways.proofs.Bounds.{leaves_few}
 use Rattle.ways.proofs.Yielded.{counted}
 use Rattle.ways.proofs.counting.count.Goals as goal
 
-pub overflow-add-number : goal.overflow-add-number
-overflow-add-number g c =
+pub overflow_add-number : goal.overflow_add-number
+overflow_add-number g c =
     let L = g.L.Language.meaning c.args.language.now in
     let sizes = g.N.Nodes.sizes c.args.nodes.now in
     let tree = g.N.Nodes.tree c.args.nodes.now in
@@ -20,6 +20,6 @@ returns g c =
     let all = c.start-cursor.ensures.answer L sizes tree in
     let p = g.N.Nodes.lives c.args.nodes.now c.args.asked L in
     record {
-      answer = counted p _ _ _ _ c.in-default.ensures.yields all c.loop-found.invariant.1;
+      answer = counted p _ _ _ _ c.in_default.ensures.yields all c.loop-found.invariant.1;
       small = omega (arith, c.loop-found.invariant.2, ap length all, leaves_few L sizes (tree c.args.node) (listed c.args.valuation), g.met.N.Nodes.few c.args.nodes.now c.args.node);
     }

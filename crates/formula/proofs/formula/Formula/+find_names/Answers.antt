@@ -15,7 +15,7 @@ returns t c =
     let both : (c.match-cell.reached ≡ f c.args.e) × Kept f c.match-cell.memo = elim c.match-cell.branch [
       | in-Constant w ↦ (let u = w.in-Constant.ensures.names x in cc, rw w.memo-is c.requires.kept)
       | in-Variable w ↦ (let u = w.in-Variable.ensures.names x in cc, rw w.memo-is c.requires.kept)
-      | in-Binary w ↦ (let u = w.in-Binary.ensures.names x in cc, rw w.memo-is w.find-names-q.ensures.leaves)
-      | in-Choose w ↦ (let u = w.in-Choose.ensures.names x in cc, rw w.memo-is w.find-names-s.ensures.leaves)
+      | in-Binary w ↦ (let u = w.in-Binary.ensures.names x in cc, rw w.memo-is w.find_names-q.ensures.leaves)
+      | in-Choose w ↦ (let u = w.in-Choose.ensures.names x in cc, rw w.memo-is w.find_names-s.ensures.leaves)
     ] in
     record { answer = both.0; leaves = kept_more f c.match-cell.memo c.args.e c.match-cell.reached (omega arith) both.1 both.0 }

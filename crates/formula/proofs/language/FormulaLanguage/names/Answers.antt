@@ -8,5 +8,5 @@ returns-then-expression-self c =
     let f = c.args.self.now in
     record { answer = sym (names_beyond f.cells c.args.variable f.count c.args.expression c.if-expression-self.true) }
 
-pub find-names-requires : goal.find-names-requires
-find-names-requires c = record { within = c.if-expression-self.false; kept = kept_none _ 256 }
+pub find_names-requires : goal.find_names-requires
+find_names-requires c = record { within = c.if-expression-self.false; kept = kept_none _ 256 }

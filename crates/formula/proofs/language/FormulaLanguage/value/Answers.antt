@@ -8,5 +8,5 @@ returns-then-expression-self c =
     let f = c.args.self.now in
     record { answer = sym (value_beyond f.cells c.args.valuation.now f.count c.args.expression c.if-expression-self.true) }
 
-pub find-value-requires : goal.find-value-requires
-find-value-requires c = record { within = c.if-expression-self.false; kept = kept_none _ 256 }
+pub find_value-requires : goal.find_value-requires
+find_value-requires c = record { within = c.if-expression-self.false; kept = kept_none _ 256 }

@@ -9,4 +9,4 @@ use Rattle.model.proofs.model.Model.action_count.Goals as goal
 pub returns : goal.returns
 returns c =
     let bs = c.args.self.now.bytes.now in
-    record { answer = c.word-at.ensures.answer ∙ ap (λ (l : Layout). word_at bs l.actions) c.locate-layout.ensures.answer ∙ numbered_length (arity_of bs (layout_of bs)) (word_at bs (layout_of bs).actions) }
+    record { answer = c.word_at.ensures.answer ∙ ap (λ (l : Layout). word_at bs l.actions) c.locate-layout.ensures.answer ∙ numbered_length (arity_of bs (layout_of bs)) (word_at bs (layout_of bs).actions) }

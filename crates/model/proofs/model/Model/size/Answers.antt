@@ -4,12 +4,12 @@ use Rattle.model_file.specs.Fields.{size_of}
 use Rattle.model.proofs.Numbered.{read_within, read_past}
 use Rattle.model.proofs.model.Model.size.Goals as goal
 
-pub returns-then-variable-word-at : goal.returns-then-variable-word-at
-returns-then-variable-word-at c =
+pub returns-then-variable-word_at : goal.returns-then-variable-word_at
+returns-then-variable-word_at c =
     let bs = c.args.self.now.bytes.now in
-    record { answer = read_within (size_of bs) (word_at bs 5) _ c.args.variable 0 c.word-at.ensures.answer c.if-variable-word-at.true (c.word-at-then-variable-word-at.ensures.answer ∙ ap (word_at bs) c.size.ensures.answer) }
+    record { answer = read_within (size_of bs) (word_at bs 5) _ c.args.variable 0 c.word_at.ensures.answer c.if-variable-word_at.true (c.word_at-then-variable-word_at.ensures.answer ∙ ap (word_at bs) c.size.ensures.answer) }
 
-pub returns-else-variable-word-at : goal.returns-else-variable-word-at
-returns-else-variable-word-at c =
+pub returns-else-variable-word_at : goal.returns-else-variable-word_at
+returns-else-variable-word_at c =
     let bs = c.args.self.now.bytes.now in
-    record { answer = read_past (size_of bs) (word_at bs 5) _ c.args.variable 0 c.word-at.ensures.answer c.if-variable-word-at.false }
+    record { answer = read_past (size_of bs) (word_at bs 5) _ c.args.variable 0 c.word_at.ensures.answer c.if-variable-word_at.false }

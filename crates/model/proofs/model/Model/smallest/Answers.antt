@@ -2,9 +2,9 @@ use Rattle.std.proofs.Common.{refl}
 use Rattle.model_file.specs.Layouts.{processes_at, start_at, actions_at, nodes_at, arguments_at}
 use Rattle.model.proofs.model.Model.smallest.Goals as goal
 
-pub invariant-of-result : goal.invariant-of-result
+pub invariant_of-result : goal.invariant_of-result
 unfolding processes_at start_at actions_at nodes_at arguments_at
-invariant-of-result c = (refl, tt)
+invariant_of-result c = record { lawful = refl }
 
 pub returns : goal.returns
 unfolding processes_at start_at actions_at nodes_at arguments_at

@@ -7,4 +7,4 @@ use Rattle.model.proofs.model.Model.variable_count.Goals as goal
 pub returns : goal.returns
 returns c =
     let bs = c.args.self.now.bytes.now in
-    record { answer = c.word-at.ensures.answer ∙ numbered_length (size_of bs) (word_at bs 5) }
+    record { answer = c.word_at.ensures.answer ∙ numbered_length (size_of bs) (word_at bs 5) }

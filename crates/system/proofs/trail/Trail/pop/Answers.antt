@@ -1,4 +1,3 @@
-use Rattle.std.proofs.Common.{rules}
 use Rattle.system.proofs.Passes.{passed_back}
 use Rattle.system.proofs.trail.Trail.pop.Goals as goal
 

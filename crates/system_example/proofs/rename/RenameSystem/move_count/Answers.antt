@@ -7,4 +7,4 @@ returns g c =
     let s = c.args.self.now in
     let m = g.S.System.meaning s.below in
     let x = c.args.state.now in
-    record { answer = c.move-count.ensures.answer ∙ rename_count s.from s.to.number m x }
+    record { answer = c.move_count.ensures.answer ∙ rename_count s.from s.to.number m x }

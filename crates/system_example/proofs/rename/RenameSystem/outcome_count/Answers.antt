@@ -7,4 +7,4 @@ returns g c =
     let s = c.args.self.now in
     let m = g.S.System.meaning s.below in
     let x = c.args.state.now in
-    record { answer = c.outcome-count.ensures.answer ∙ rename_outcomes s.from s.to.number m x c.args.k }
+    record { answer = c.outcome_count.ensures.answer ∙ rename_outcomes s.from s.to.number m x c.args.k }
