@@ -22,7 +22,7 @@ fn a_layer_is_walked(rt: HostRuntime) -> Result<(), Fail> {
     assert!(rt; walk.act(1, 0).is_ok());
     assert!(rt; action(walk.step(0)) == 40);
     assert!(rt; action(walk.step(1)) == 2);
-    assert!(rt; walk.state() == &[1, 1]);
+    assert!(rt; walk.state() == [1, 1].as_slice());
     Ok(())
 }
 

@@ -4,7 +4,7 @@
 mod cell;
 mod cells;
 mod formula;
-mod language;
+mod questions;
 mod reading;
 mod values;
 

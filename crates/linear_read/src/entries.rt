@@ -4,7 +4,7 @@ ghost use Rattle.linear.specs.Reading.{entry_of, entries_from, or_no_entries, le
 ghost use Rattle.linear.specs.Tables.{entries_of, target_of};
 ghost use Rattle.words.specs.Words.{word_at};
 
-use crate::words::word_in;
+use crate::lists::word_in;
 use linear::{Entry, EntryList, LinearFault, Place, Target};
 use words::word_at;
 

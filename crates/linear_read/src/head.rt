@@ -4,7 +4,7 @@ ghost use Rattle.linear.specs.Reading.{kept_from, head_in, mapped};
 ghost use Rattle.linear.specs.Tables.{list_of};
 ghost use Rattle.linear_read.specs.Sections.{rule_of, head_of};
 
-use crate::words::{count_in, word_in};
+use crate::lists::{count_in, word_in};
 use linear::{Group, LinearFault, Place, WordList};
 
 pub(crate) const HEAD: Place = Place {

@@ -4,12 +4,12 @@
 mod checks;
 mod entries;
 mod head;
+mod lists;
 mod parts;
 mod reading;
 mod rules;
 mod section;
 mod sections;
 mod summands;
-mod words;
 
 pub use reading::read;

@@ -4,7 +4,7 @@ ghost use Rattle.linear.specs.Layout.{guard_words, acts_words};
 ghost use Rattle.linear.specs.Reading.{guard_in, acts_in, past, mapped};
 ghost use Rattle.linear.specs.Tables.{guard_of, act_of};
 
-use crate::words::{list_in, word_in};
+use crate::lists::{list_in, word_in};
 use linear::{Act, Guard, LinearFault, Place};
 
 // A program counter, the sum variables and the conditions.

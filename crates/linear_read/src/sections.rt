@@ -5,9 +5,9 @@ ghost use Rattle.linear.specs.Reading.{acts_in, rate_in, summands_from, actions_
 ghost use Rattle.linear.specs.declared.fault.Group.TheVariants.{Actions, Delays};
 ghost use Rattle.linear_read.specs.Sections.{actions_of, delays_of};
 
+use crate::lists::count_in;
 use crate::section::{ActionSection, DelaySection};
 use crate::summands::{action_in, delay_in};
-use crate::words::count_in;
 use linear::{Group, LinearFault, NO_ACTION, NO_DELAY, Place};
 
 // The summands that act from `at` on, so many.

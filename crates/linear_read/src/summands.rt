@@ -5,8 +5,8 @@ ghost use Rattle.linear.specs.Reading.{acts_in, rate_in, summand_in, summand_end
 ghost use Rattle.linear.specs.Tables.{action_of, delay_of};
 
 use crate::entries::target_in;
+use crate::lists::word_in;
 use crate::parts::{act_in, guard_in};
-use crate::words::word_in;
 use linear::{ActionSummand, DelaySummand, LinearFault, Place};
 
 // A summand that acts.

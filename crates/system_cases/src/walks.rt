@@ -14,7 +14,7 @@ fn number(answer: Result<(), Refusal>) -> u16 {
 #[test]
 fn starts_at_the_first_state(rt: HostRuntime) {
     let walk = Walk::new(Failover {});
-    assert!(rt; walk.state() == &[1, 1]);
+    assert!(rt; walk.state() == [1, 1].as_slice());
     assert!(rt; walk.trail_length() == 0);
     assert!(rt; walk.step(0).is_none());
 }
@@ -26,7 +26,7 @@ fn weight_zero_is_no_outcome(rt: HostRuntime) {
     assert!(rt; number(walk.act(0, 3)) == 12);
     assert!(rt; number(walk.act(1, 0)) == 11);
     assert!(rt; number(walk.wait(1)) == 11);
-    assert!(rt; walk.state() == &[1, 1]);
+    assert!(rt; walk.state() == [1, 1].as_slice());
     assert!(rt; walk.trail_length() == 0);
 }
 
@@ -35,7 +35,7 @@ fn steps_say_what_was_done(rt: HostRuntime) -> Result<(), Fail> {
     let mut walk = Walk::new(Failover {});
     assert!(rt; number(walk.act(0, 2)) == 0);
     assert!(rt; number(walk.wait(1)) == 0);
-    assert!(rt; walk.state() == &[0, 0]);
+    assert!(rt; walk.state() == [0, 0].as_slice());
     assert!(rt; walk.trail_length() == 2);
     match walk.step(0) {
         Some(Step::Acted(label, n)) => {
@@ -59,11 +59,11 @@ fn back_on_an_empty_trail(rt: HostRuntime) {
     assert!(rt; number(walk.back()) == 15);
     assert!(rt; number(walk.wait(0)) == 0);
     assert!(rt; number(walk.back()) == 0);
-    assert!(rt; walk.state() == &[1, 1]);
+    assert!(rt; walk.state() == [1, 1].as_slice());
     assert!(rt; number(walk.back()) == 15);
     assert!(rt; number(walk.wait(0)) == 0);
     walk.restart();
-    assert!(rt; walk.state() == &[1, 1]);
+    assert!(rt; walk.state() == [1, 1].as_slice());
     assert!(rt; number(walk.back()) == 15);
 }
 
@@ -82,7 +82,7 @@ fn the_trail_holds_64_steps(rt: HostRuntime) {
     assert!(rt; walk.trail_length() == 64);
     assert!(rt; number(walk.wait(0)) == 14);
     assert!(rt; number(walk.back()) == 0);
-    assert!(rt; walk.state() == &[0, 1]);
+    assert!(rt; walk.state() == [0, 1].as_slice());
     assert!(rt; number(walk.wait(0)) == 0);
     assert!(rt; walk.trail_length() == 64);
 }
@@ -108,7 +108,7 @@ fn play_answers_each_call(rt: HostRuntime) {
     ];
     let mut answers = [Err(Refusal::TooManyStates); 7];
     let walk = play(Failover {}, &calls, &mut answers);
-    assert!(rt; walk.state() == &[1, 1]);
+    assert!(rt; walk.state() == [1, 1].as_slice());
     assert!(rt; walk.trail_length() == 2);
     let [a, b, c, d, e, f, past] = answers;
     assert!(rt; number(a) == 15 && number(b) == 0 && number(c) == 12);
@@ -121,7 +121,7 @@ fn play_lets_go_of_answers_past_the_list(rt: HostRuntime) {
     let calls = [Call::Wait(0), Call::Restart, Call::Wait(0), Call::Wait(9)];
     let mut answers = [Err(Refusal::TooManyStates); 2];
     let walk = play(Failover {}, &calls, &mut answers);
-    assert!(rt; walk.state() == &[0, 1]);
+    assert!(rt; walk.state() == [0, 1].as_slice());
     assert!(rt; walk.trail_length() == 1);
     let [a, b] = answers;
     assert!(rt; number(a) == 0 && number(b) == 0);

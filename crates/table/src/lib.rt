@@ -1,7 +1,7 @@
 // Tables: the data language whose expressions look values up by two variables.
 #![tactic(auto)]
 
-mod language;
+mod questions;
 mod reading;
 mod record;
 mod records;

@@ -1,7 +1,7 @@
 use Rattle.std.proofs.Common.{sym}
 use Rattle.formula.specs.Among.{value_beyond}
 use Rattle.formula.proofs.Keeping.{kept_none}
-use Rattle.formula.proofs.language.FormulaLanguage.value.Goals as goal
+use Rattle.formula.proofs.questions.FormulaLanguage.value.Goals as goal
 
 pub returns-then-expression-self : goal.returns-then-expression-self
 returns-then-expression-self c =

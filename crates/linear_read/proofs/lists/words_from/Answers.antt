@@ -1,7 +1,7 @@
 use Rattle.std.proofs.Common.{arith, length-set, rules}
 use Rattle.std.proofs.lemmas.List.{take_more_set, length-take-le}
 use Rattle.linear.proofs.Words.{words_more}
-use Rattle.linear_read.proofs.words.words_from.Goals as goal
+use Rattle.linear_read.proofs.lists.words_from.Goals as goal
 
 pub loop-i-preserved : goal.loop-i-preserved
 loop-i-preserved c =

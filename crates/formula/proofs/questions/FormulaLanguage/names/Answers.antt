@@ -1,7 +1,7 @@
 use Rattle.std.proofs.Common.{sym}
 use Rattle.formula.specs.Among.{names_beyond}
 use Rattle.formula.proofs.Keeping.{kept_none}
-use Rattle.formula.proofs.language.FormulaLanguage.names.Goals as goal
+use Rattle.formula.proofs.questions.FormulaLanguage.names.Goals as goal
 
 pub returns-then-expression-self : goal.returns-then-expression-self
 returns-then-expression-self c =
