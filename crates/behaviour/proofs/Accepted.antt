@@ -1,7 +1,7 @@
 -- An accepted model file gives a sound model, each node of which is placed once. Assumes nothing.
 use Rattle.std.proofs.Common.{◌≡◌, ℕ, zero, suc, ◌+◌, ◌-◌, ◌<◌, ◌≤◌, true, eqb, ltb, leb, ◌⊎◌, List, [], ◌∷◌, map, length, get_or, drop, Some, sym, refl, ap, ◌∙◌, subst, ap₂, inl, inr, ⊎_elim, arith}
 use lib.ListN.{get_or-eq_default}
-use Rattle.std.specs.List.{range_with_len, AllByRecursion as All}
+use Rattle.std.specs.List.{range_with_len, AllByRecursion}
 use Rattle.std.proofs.ByRecursion.{All-map}
 use Rattle.std.proofs.lemmas.List.{length-take-le, length-drop}
 use Rattle.std.proofs.lemmas.Bool.{cases_lt, eqb-true, ne_eqb, and_parts, leb-true, ltb-true}
@@ -167,7 +167,7 @@ module _ (bs : List ℕ) (w : WellFormed bs) where
       let r = (w.limits.parameters i low).1.1 (omega arith) in
       owner_is x (parameter i) (omega arith) (low, a, b)
 
-  all_processes : (Q : header.Process → Type 0) → ((i : ℕ) → i < P → Q (process_of bs l i)) → All Q g.processes
+  all_processes : (Q : header.Process → Type 0) → ((i : ℕ) → i < P → Q (process_of bs l i)) → AllByRecursion Q g.processes
   all_processes Q h = All-map Q (process_of bs l) (range_with_len 0 P) (all_counting _ 0 P P (omega arith) h)
 
   start_process : process (model_of g) g.start ≡ headed g (process_of bs l (start_of bs l))

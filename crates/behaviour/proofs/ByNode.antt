@@ -2,7 +2,7 @@
 use Rattle.std.proofs.Common.{◌≡◌, ℕ, suc, ◌+◌, ◌<◌, ◌≤◌, Bool, true, false, cond, not, eqb, List, [], ◌∷◌, ◌++◌, map, length, replicate, filter, sym, refl, ap, ◌∙◌, subst, ap₂, subst₂, ⊎_elim, arith, length-append}
 use mathlib.Core.Path.{fun_ext}
 use lib.Seq.{append_snoc}
-use Rattle.std.specs.List.{range_with_len, flat_map, prefix_len, AllByRecursion as All}
+use Rattle.std.specs.List.{range_with_len, flat_map, prefix_len, AllByRecursion}
 use Rattle.std.proofs.lemmas.List.{append-nil}
 use Rattle.std.proofs.ByRecursion.{All-weaker, All-append, All-map}
 use Rattle.std.proofs.lemmas.Bool.{eq-eqb, ne_eqb, eqb-true, cases_lt}
@@ -53,7 +53,7 @@ module _ (m : Model) (tree : ℕ → Tree) (above : ℕ → Guarded) where
   abbrev FitsAbove : Guarded → Way → Type 0
   FitsAbove u y = (above y.leaf ≡ record { counter = u.counter; sums = u.sums ++ y.sums; conditions = u.conditions ++ y.conditions }) × (y.doing ≡ doing (tree y.leaf)) × (y.then ≡ going (tree y.leaf))
 
-  ways_above : (t : Tree) (u : Guarded) → Numbered m tree t → Passes t → above (node t) ≡ u → All (FitsAbove u) (ways t)
+  ways_above : (t : Tree) (u : Guarded) → Numbered m tree t → Passes t → above (node t) ≡ u → AllByRecursion (FitsAbove u) (ways t)
   ways_above (call n p es) u h q e = tt
   ways_above (when n c t) u h q e =
       All-map (FitsAbove u) (add_condition c) (ways t)
@@ -78,7 +78,7 @@ module _ (m : Model) (tree : ℕ → Tree) (above : ℕ → Guarded) where
   tagged c y f = let q = sym f.0 in λ i. ((q i).counter, record { leaf = y.leaf; sums = (q i).sums; conditions = (q i).conditions; doing = f.1 i; then = f.2 i })
 
 -- what is known of each element with key i, by a list of them
-kept_is : {X : Type 0} (key : X → ℕ) (F : ℕ → X) (i : ℕ) (xs : List X) → All (λ x. x ≡ F (key x)) xs → filter (λ x. eqb (key x) i) xs ≡ replicate (total (λ x. is i (key x)) xs) (F i)
+kept_is : {X : Type 0} (key : X → ℕ) (F : ℕ → X) (i : ℕ) (xs : List X) → AllByRecursion (λ x. x ≡ F (key x)) xs → filter (λ x. eqb (key x) i) xs ≡ replicate (total (λ x. is i (key x)) xs) (F i)
 unfolding is
 kept_is key F i [] a = refl
 kept_is {X} key F i (x ∷ xs) a = go (eqb (key x) i) refl (kept_is key F i xs a.1)
@@ -103,7 +103,7 @@ module _ (n : ℕ) where
       go false e r = let k : cond false 1 0 + total (λ t. cond (eqb (node t) n) 1 0) xs ≡ 0 = rw e at h in let j = r (omega arith) in omega arith
 
 positions : (all pre xs : List Tree) → all ≡ pre ++ xs → ((n : ℕ) → total (λ t. is n (node t)) all ≤ 1)
-    → (k : ℕ) → k ≡ suc (length pre) → All (λ z. suc (prefix_len (λ t. not (eqb (node t) (node z.1))) all) ≡ z.0) (numbered k xs)
+    → (k : ℕ) → k ≡ suc (length pre) → AllByRecursion (λ z. suc (prefix_len (λ t. not (eqb (node t) (node z.1))) all) ≡ z.0) (numbered k xs)
 unfolding is
 positions all pre [] e h k q = tt
 positions all pre (x ∷ xs) e h k q = (first, positions all (pre ++ (x ∷ [])) xs (e ∙ sym (append_snoc pre x xs)) h (suc k) (let z = length-append pre (x ∷ []) in omega arith))
@@ -120,11 +120,11 @@ positions all pre (x ∷ xs) e h k q = (first, positions all (pre ++ (x ∷ []))
         let b : prefix_len (λ t. not (eqb (node t) (node x))) (x ∷ xs) ≡ 0 = ap (λ b. cond (not b) (1 + prefix_len (λ t. not (eqb (node t) (node x))) xs) 0) (eq-eqb (node x) (node x) refl) in
         omega arith
 
-total_le : {X : Type 0} (f g : X → ℕ) (xs : List X) → All (λ x. f x ≤ g x) xs → total f xs ≤ total g xs
+total_le : {X : Type 0} (f g : X → ℕ) (xs : List X) → AllByRecursion (λ x. f x ≤ g x) xs → total f xs ≤ total g xs
 total_le f g [] a = omega arith
 total_le f g (x ∷ xs) a = let ih = total_le f g xs a.1 in omega (arith, a.0)
 
-beyond : (b n : ℕ) (xs : List ℕ) → b ≤ n → All (λ x. x < b) xs → total (is n) xs ≡ 0
+beyond : (b n : ℕ) (xs : List ℕ) → b ≤ n → AllByRecursion (λ x. x < b) xs → total (is n) xs ≡ 0
 unfolding is
 beyond b n [] l a = refl
 beyond b n (x ∷ xs) l a = let ih = beyond b n xs l a.1 in let e = ne_eqb x n (λ q. omega (arith, q, a.0)) in rw e (omega arith)
@@ -150,7 +150,7 @@ module _ (n : ℕ) where
   below_le (action k b es x w t) = let a = below_le t in let c = total_append at_node (rest (next t)) (below t) in let d = rest_le t in omega arith
   below_le (delay k r t) = let a = below_le t in let c = total_append at_node (rest (next t)) (below t) in let d = rest_le t in omega arith
 
-all_numbered : {X : Type 0} (P : X → Type 0) (k : ℕ) (xs : List X) → All P xs → All (λ (z : ℕ × X). P z.1) (numbered k xs)
+all_numbered : {X : Type 0} (P : X → Type 0) (k : ℕ) (xs : List X) → AllByRecursion P xs → AllByRecursion (λ (z : ℕ × X). P z.1) (numbered k xs)
 all_numbered P k [] a = tt
 all_numbered P k (x ∷ xs) a = (a.0, all_numbered P (suc k) xs a.1)
 
@@ -158,12 +158,12 @@ total_numbered : {X : Type 0} (f : X → ℕ) (k : ℕ) (xs : List X) → total 
 total_numbered f k [] = refl
 total_numbered f k (x ∷ xs) = ap (λ z. f x + z) (total_numbered f (suc k) xs)
 
-all_two : {X : Type 0} (P Q : X → Type 0) (xs : List X) → All P xs → All Q xs → All (λ x. P x × Q x) xs
+all_two : {X : Type 0} (P Q : X → Type 0) (xs : List X) → AllByRecursion P xs → AllByRecursion Q xs → AllByRecursion (λ x. P x × Q x) xs
 all_two P Q [] a b = tt
 all_two P Q (x ∷ xs) a b = ((a.0, b.0), all_two P Q xs a.1 b.1)
 
 module _ (m : Model) (s : Sound m) (w : PlacedOnce m s.tree) (above : ℕ → Guarded)
-    (bodies : All (λ q. (above (node q.body) ≡ place_itself (counter m (node q.body))) × Passes m s.tree above q.body) m.processes) where
+    (bodies : AllByRecursion (λ q. (above (node q.body) ≡ place_itself (counter m (node q.body))) × Passes m s.tree above q.body) m.processes) where
   root : (t : Tree) → Numbered m s.tree t → node t < m.nodes
   root (call k p es) h = h.0
   root (when k e t) h = h.0.0
@@ -172,7 +172,7 @@ module _ (m : Model) (s : Sound m) (w : PlacedOnce m s.tree) (above : ℕ → Gu
   root (action k a es x v t) h = h.0.0
   root (delay k r t) h = h.0.0
 
-  at_rest : (t : Tree) → Numbered m s.tree t → All (λ u. node u < m.nodes) (rest (next t))
+  at_rest : (t : Tree) → Numbered m s.tree t → AllByRecursion (λ u. node u < m.nodes) (rest (next t))
   at_rest (call k p es) h = tt
   at_rest (when k e t) h = (h.0.0, tt)
   at_rest (choice k l r) h = (h.0.0, tt)
@@ -180,7 +180,7 @@ module _ (m : Model) (s : Sound m) (w : PlacedOnce m s.tree) (above : ℕ → Gu
   at_rest (action k a es x v t) h = (h.0.0, tt)
   at_rest (delay k r t) h = (h.0.0, tt)
 
-  roots : (t : Tree) → Numbered m s.tree t → All (λ u. node u < m.nodes) (below t)
+  roots : (t : Tree) → Numbered m s.tree t → AllByRecursion (λ u. node u < m.nodes) (below t)
   roots (call k p es) h = tt
   roots (when k e t) h = roots t h.1
   roots (choice k l r) h = All-append _ (below l) (below r) (roots l h.1) (roots r h.2)
@@ -188,7 +188,7 @@ module _ (m : Model) (s : Sound m) (w : PlacedOnce m s.tree) (above : ℕ → Gu
   roots (action k a es x v t) h = All-append _ (rest (next t)) (below t) (at_rest t h.1) (roots t h.1)
   roots (delay k r t) h = All-append _ (rest (next t)) (below t) (at_rest t h.1) (roots t h.1)
 
-  here : All (λ t. node t < m.nodes) (unsorted m)
+  here : AllByRecursion (λ t. node t < m.nodes) (unsorted m)
   here = all_joined _ (λ q. q.body ∷ below q.body) m.processes (All-weaker _ _ (λ q h. (root q.body h, roots q.body h)) m.processes s.numbered)
 
   places_once : (n : ℕ) → total (λ t. is n (node t)) (places m) ≤ 1
@@ -203,7 +203,7 @@ module _ (m : Model) (s : Sound m) (w : PlacedOnce m s.tree) (above : ℕ → Gu
   abbrev Known : Tree → Type 0
   Known t = Numbered m s.tree t × Passes m s.tree above t × (above (node t) ≡ place_itself (counter m (node t)))
 
-  known_rest : (t : Tree) → Numbered m s.tree t → Passes m s.tree above t → Arrived m s.tree above (next t) → All Known (rest (next t))
+  known_rest : (t : Tree) → Numbered m s.tree t → Passes m s.tree above t → Arrived m s.tree above (next t) → AllByRecursion Known (rest (next t))
   known_rest (call k p es) h q e = tt
   known_rest (when k c t) h q e = ((h, q, e), tt)
   known_rest (choice k l r) h q e = ((h, q, e), tt)
@@ -211,7 +211,7 @@ module _ (m : Model) (s : Sound m) (w : PlacedOnce m s.tree) (above : ℕ → Gu
   known_rest (action k a es x v t) h q e = ((h, q, e), tt)
   known_rest (delay k r t) h q e = ((h, q, e), tt)
 
-  known_below : (t : Tree) → Numbered m s.tree t → Passes m s.tree above t → All Known (below t)
+  known_below : (t : Tree) → Numbered m s.tree t → Passes m s.tree above t → AllByRecursion Known (below t)
   known_below (call k p es) h q = tt
   known_below (when k c t) h q = known_below t h.1 q.1
   known_below (choice k l r) h q = All-append _ (below l) (below r) (known_below l h.1 q.2) (known_below r h.2 q.3)
@@ -219,7 +219,7 @@ module _ (m : Model) (s : Sound m) (w : PlacedOnce m s.tree) (above : ℕ → Gu
   known_below (action k a es x v t) h q = All-append _ (rest (next t)) (below t) (known_rest t h.1 q.1 q.0) (known_below t h.1 q.1)
   known_below (delay k r t) h q = All-append _ (rest (next t)) (below t) (known_rest t h.1 q.1 q.0) (known_below t h.1 q.1)
 
-  known : All Known (places m)
+  known : AllByRecursion Known (places m)
   known =
       all_in_order Known node m.nodes (unsorted m)
       (all_joined Known (λ q. q.body ∷ below q.body) m.processes
@@ -234,7 +234,7 @@ module _ (m : Model) (s : Sound m) (w : PlacedOnce m s.tree) (above : ℕ → Gu
       list : List (ℕ × Way)
       list = flat_map (λ (z : ℕ × Tree). map {B = ℕ × Way} (λ y. (z.0, y)) (ways z.1)) (numbered 1 (places m))
 
-      are : All (λ z. z ≡ way_to m s.tree above z.1.leaf) list
+      are : AllByRecursion (λ z. z ≡ way_to m s.tree above z.1.leaf) list
       are =
           all_joined _ (λ (z : ℕ × Tree). map {B = ℕ × Way} (λ y. (z.0, y)) (ways z.1)) (numbered 1 (places m))
           (All-weaker _ _ (λ z k. All-map _ (λ y. (z.0, y)) (ways z.1) (All-weaker _ _ (λ y f. tagged m s.tree above z.0 y f) (ways z.1) (ways_above m s.tree above z.1 (place_itself z.0) k.0.0 k.0.1 (k.0.2 ∙ ap place_itself k.1)))) (numbered 1 (places m))
@@ -247,6 +247,6 @@ module _ (m : Model) (s : Sound m) (w : PlacedOnce m s.tree) (above : ℕ → Gu
           ∙ total_numbered (leafs i) 1 (places m)
           ∙ total_in_order (leafs i) node m.nodes (unsorted m) here
 
-      joined_same : {X Z : Type 0} (f g : X → List Z) (xs : List X) → All (λ x. f x ≡ g x) xs → flat_map f xs ≡ flat_map g xs
+      joined_same : {X Z : Type 0} (f g : X → List Z) (xs : List X) → AllByRecursion (λ x. f x ≡ g x) xs → flat_map f xs ≡ flat_map g xs
       joined_same f g [] a = refl
       joined_same f g (x ∷ xs) a = ap₂ {C = List _} ◌++◌ a.0 (joined_same f g xs a.1)

@@ -1,7 +1,7 @@
 -- A tree's transitions, summed, are those of its ways. Assumes nothing.
 use Rattle.std.proofs.Common.{◌≡◌, ℕ, ◌+◌, Bool, true, false, cond, not, ◌&&◌, eqb, List, [], ◌∷◌, set, sym, refl, ap, ◌∙◌, subst, ap₂, arith, get_or-set_other}
 use mathlib.Core.Path.{fun_ext}
-use Rattle.std.specs.List.{flat_map, AllByRecursion as All}
+use Rattle.std.specs.List.{flat_map, AllByRecursion}
 use Rattle.std.proofs.ByRecursion.{All-weaker, All-map, All-append}
 use Rattle.std.proofs.lemmas.Bool.{or_parts, both_ways}
 use Rattle.language.specs.Meanings.{Meaning, Lawful}
@@ -20,12 +20,12 @@ joined_none : {X Y : Type 0} (xs : List X) → flat_map {A = Y} (λ (x : X). [])
 joined_none [] = refl
 joined_none (x ∷ xs) = joined_none xs
 
-fresh_sums : (L : Meaning) (S : Scope) (t : Tree) → Scoped L S t → All (λ y. All (λ x. S x ≡ false) y.sums) (ways t)
+fresh_sums : (L : Meaning) (S : Scope) (t : Tree) → Scoped L S t → AllByRecursion (λ y. AllByRecursion (λ x. S x ≡ false) y.sums) (ways t)
 fresh_sums L S (call n p es) s = tt
-fresh_sums L S (when n e t) s = All-map (λ y. All (λ x. S x ≡ false) y.sums) (add_condition e) (ways t) (fresh_sums L S t s.1)
+fresh_sums L S (when n e t) s = All-map (λ y. AllByRecursion (λ x. S x ≡ false) y.sums) (add_condition e) (ways t) (fresh_sums L S t s.1)
 fresh_sums L S (choice n l r) s = All-append _ (ways l) (ways r) (fresh_sums L S l s.0) (fresh_sums L S r s.1)
 fresh_sums L S (sum n x t) s =
-    All-map (λ y. All (λ z. S z ≡ false) y.sums) (add_sum x) (ways t)
+    All-map (λ y. AllByRecursion (λ z. S z ≡ false) y.sums) (add_sum x) (ways t)
     (All-weaker _ _ (λ y a. (s.0, All-weaker _ _ (λ z e. (or_parts (eqb x z) (S z) e).1) y.sums a)) (ways t) (fresh_sums L (adding x S) t s.1))
 fresh_sums L S (action n a es x w t) s = (tt, tt)
 fresh_sums L S (delay n r t) s = (tt, tt)
@@ -39,7 +39,7 @@ module _ (L : Meaning) (law : Lawful L) (m : Model) where
   unseen S e x d ρ w o =
       ap (λ v. not (eqb v 0)) (law.agrees e (set ρ x d) ρ (λ y k. get_or-set_other ρ x y d 0 (λ q. both_ways (S x) o (subst (λ z. S z ≡ true) q (w.1 y k)))))
 
-  guard : {X : Type 0} (e : ℕ) (xs : List ℕ) (b : List ℕ → Bool) (k : List ℕ → List X) → All (λ x. (d : ℕ) (ρ : List ℕ) → holds L e (set ρ x d) ≡ holds L e ρ) xs → (ρ : List ℕ)
+  guard : {X : Type 0} (e : ℕ) (xs : List ℕ) (b : List ℕ → Bool) (k : List ℕ → List X) → AllByRecursion (λ x. (d : ℕ) (ρ : List ℕ) → holds L e (set ρ x d) ≡ holds L e ρ) xs → (ρ : List ℕ)
       → spread m.sizes xs (λ τ. cond (holds L e τ && b τ) (k τ) []) ρ ≡ cond (holds L e ρ) (spread m.sizes xs (λ τ. cond (b τ) (k τ) []) ρ) []
   guard {X} e [] b k a ρ = go (holds L e ρ)
     where
@@ -64,7 +64,7 @@ module _ (L : Meaning) (law : Lawful L) (m : Model) where
         ∙ total_all _ _ (ways t) (All-weaker _ _ (λ y a. sym (under y a)) (ways t) (fresh_sums L S t s.1))
         ∙ sym (total_map (λ y. total f (along y ρ)) (add_condition e) (ways t))
       where
-        under : (y : Way) → All (λ x. S x ≡ false) y.sums → total f (along (add_condition e y) ρ) ≡ cond (holds L e ρ) (total f (along y ρ)) 0
+        under : (y : Way) → AllByRecursion (λ x. S x ≡ false) y.sums → total f (along (add_condition e y) ρ) ≡ cond (holds L e ρ) (total f (along y ρ)) 0
         under y a =
             ap (total f) (guard e y.sums (all_hold L y.conditions) (does L m.sizes y.doing (target L m y.then)) (All-weaker _ _ (λ x o d τ. unseen S e x d τ s.0 o) y.sums a) ρ)
             ∙ total_cond f (holds L e ρ) (along y ρ)

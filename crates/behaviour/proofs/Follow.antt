@@ -1,6 +1,6 @@
 -- A vector's transitions are derived by the term that it stands for, and those of the term are found at the vector. Assumes nothing.
 use Rattle.std.proofs.Common.{◌≡◌, ℕ, zero, suc, ◌+◌, ◌<◌, ◌≤◌, Bool, true, false, cond, ◌⊎◌, List, [], ◌∷◌, get_or, sym, refl, ap, ◌∙◌, subst, ⊎_elim, arith}
-use Rattle.std.specs.List.{AllByRecursion as All}
+use Rattle.std.specs.List.{AllByRecursion}
 use Rattle.std.proofs.ByRecursion.{All-get_or}
 use Rattle.language.specs.Meanings.{Meaning, Lawful}
 use Rattle.valuation.specs.Transitions.{Transition}
@@ -29,7 +29,7 @@ abbrev pub In : {X : Type 0} → X → List X → Type 0
 In x [] = ⊥
 In x (y ∷ ys) = (y ≡ x) ⊎ In x ys
 
-pub in_all : {X : Type 0} (P : X → Type 0) (xs : List X) (x : X) → In x xs → All P xs → P x
+pub in_all : {X : Type 0} (P : X → Type 0) (xs : List X) (x : X) → In x xs → AllByRecursion P xs → P x
 in_all P [] x i a = absurd i
 in_all P (y ∷ ys) x i a = ⊎_elim (λ e. subst P e a.0) (λ j. in_all P ys x j a.1) i
 
@@ -37,7 +37,7 @@ in_total : {X : Type 0} (f : X → ℕ) (xs : List X) (x : X) → In x xs → f 
 in_total f [] x i = absurd i
 in_total f (y ∷ ys) x i = ⊎_elim (λ e. let q = ap f e in omega arith) (λ j. let q = in_total f ys x j in omega arith) i
 
-positive : {X : Type 0} (P : X → Type 0) (f : X → ℕ) (xs : List X) → All P xs → 0 < total f xs → (x : X) × P x × (0 < f x)
+positive : {X : Type 0} (P : X → Type 0) (f : X → ℕ) (xs : List X) → AllByRecursion P xs → 0 < total f xs → (x : X) × P x × (0 < f x)
 positive P f [] a h = absurd (omega arith)
 positive P f (y ∷ ys) a h = go (f y) refl (λ k. positive P f ys a.1 k)
   where

@@ -1,7 +1,7 @@
 -- A flat model whose children are higher nodes gives a sound model. Assumes nothing.
 use Rattle.std.proofs.Common.{◌≡◌, ℕ, suc, ◌+◌, ◌-◌, ◌<◌, ◌≤◌, true, List, [], ◌∷◌, length, get_or, sym, refl, ap, ◌∙◌, subst, ap₂, ⊎_elim, arith}
 use lib.ListN.{length-map}
-use Rattle.std.specs.List.{AllByRecursion as All}
+use Rattle.std.specs.List.{AllByRecursion}
 use Rattle.std.proofs.ByRecursion.{All-weaker, All-map}
 use Rattle.std.proofs.lemmas.List.{get_or-map}
 use Rattle.std.proofs.lemmas.Bool.{cases_eq}
@@ -47,9 +47,9 @@ BindsFrom owner i (k ∷ ks) = Binds owner i k × BindsFrom owner (suc i) ks
 pub record WellMade (g : Flat) : Type 0 where
   pub owner : ℕ → ℕ
   pub binds : BindsFrom owner 0 g.nodes
-  pub own_params : All (λ q. (x : ℕ) → param (headed g q) x ≡ true → owner x ≡ 0) g.processes
+  pub own_params : AllByRecursion (λ q. (x : ℕ) → param (headed g q) x ≡ true → owner x ≡ 0) g.processes
   pub kids : KidsFrom g 0 g.nodes
-  pub bodies : All (λ q. q.body < length g.nodes) g.processes
+  pub bodies : AllByRecursion (λ q. q.body < length g.nodes) g.processes
   pub starts : g.start < length g.processes
   pub sizes : (x : ℕ) → x < length g.sizes → 0 < get_or g.sizes x 0
   pub values : (x : ℕ) → x < length g.sizes → param (process (model_of g) g.start) x ≡ true → get_or g.values (x - (process (model_of g) g.start).first) 0 < get_or g.sizes x 0
@@ -126,11 +126,11 @@ sound g w = record {
   owned = All-map (λ q. ((x : ℕ) → param q x ≡ true → w.owner x ≡ 0) × Owned w.owner 0 q.body) (headed g) g.processes (both g.processes w.own_params bodies);
 }
   where
-    bodies : All (λ q. Fine g w.owner q.body (tree_of g q.body)) g.processes
+    bodies : AllByRecursion (λ q. Fine g w.owner q.body (tree_of g q.body)) g.processes
     bodies = All-weaker _ _ (λ q l. fine g w.owner 0 g.nodes (omega arith) (λ j z. let e : j - 0 ≡ j = omega arith in sym (ap (λ n. get_or (grown g 0 g.nodes) n (call 0 0 [])) e)) w.kids w.binds q.body (omega arith) l) g.processes w.bodies
 
-    both : (qs : List header.Process) → All (λ q. (x : ℕ) → param (headed g q) x ≡ true → w.owner x ≡ 0) qs → All (λ q. Fine g w.owner q.body (tree_of g q.body)) qs
-        → All (λ q. ((x : ℕ) → param (headed g q) x ≡ true → w.owner x ≡ 0) × Owned w.owner 0 (tree_of g q.body)) qs
+    both : (qs : List header.Process) → AllByRecursion (λ q. (x : ℕ) → param (headed g q) x ≡ true → w.owner x ≡ 0) qs → AllByRecursion (λ q. Fine g w.owner q.body (tree_of g q.body)) qs
+        → AllByRecursion (λ q. ((x : ℕ) → param (headed g q) x ≡ true → w.owner x ≡ 0) × Owned w.owner 0 (tree_of g q.body)) qs
     both [] a b = tt
     both (q ∷ qs) a b = ((a.0, raise g w.owner 0 q.body (tree_of g q.body) (omega arith) b.0.2), both qs a.1 b.1)
 

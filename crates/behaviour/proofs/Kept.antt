@@ -2,7 +2,7 @@
 use Rattle.std.proofs.Common.{◌≡◌, ℕ, suc, ◌+◌, ◌-◌, ◌<◌, ◌≤◌, Bool, true, false, cond, not, ◌&&◌, eqb, List, [], ◌∷◌, ◌++◌, map, length, get_or, sum_by, sym, refl, ap, ◌∙◌, subst, ap₂, ⊎_elim, arith}
 use mathlib.Core.Path.{fun_ext}
 use lib.ListN.{get_or-eq_default}
-use Rattle.std.specs.List.{range_with_len, flat_map, prefix_len, AllByRecursion as All}
+use Rattle.std.specs.List.{range_with_len, flat_map, prefix_len, AllByRecursion}
 use Rattle.std.proofs.ByRecursion.{All-weaker, All-map, All-append, all_kept_by, All-get_or}
 use Rattle.std.proofs.lemmas.List.FromFn.{length-map-range_with_len}
 use Rattle.std.proofs.lemmas.Bool.{eq-eqb, ne_eqb, eqb-true, cases_eq, cases_lt}
@@ -27,43 +27,43 @@ use Rattle.behaviour.proofs.Expands.{expands}
 use Rattle.behaviour.proofs.Lands.{Found, Lands, fires_along, way_does}
 use Rattle.source.proofs.Mapped.{get_or_each}
 
-pub all_left : {X : Type 0} (P : X → Type 0) (xs ys : List X) → All P (xs ++ ys) → All P xs
+pub all_left : {X : Type 0} (P : X → Type 0) (xs ys : List X) → AllByRecursion P (xs ++ ys) → AllByRecursion P xs
 all_left P [] ys a = tt
 all_left P (x ∷ xs) ys a = (a.0, all_left P xs ys a.1)
 
-pub all_right : {X : Type 0} (P : X → Type 0) (xs ys : List X) → All P (xs ++ ys) → All P ys
+pub all_right : {X : Type 0} (P : X → Type 0) (xs ys : List X) → AllByRecursion P (xs ++ ys) → AllByRecursion P ys
 all_right P [] ys a = a
 all_right P (x ∷ xs) ys a = all_right P xs ys a.1
 
-pub all_joined : {X Y : Type 0} (P : Y → Type 0) (g : X → List Y) (xs : List X) → All (λ x. All P (g x)) xs → All P (flat_map g xs)
+pub all_joined : {X Y : Type 0} (P : Y → Type 0) (g : X → List Y) (xs : List X) → AllByRecursion (λ x. AllByRecursion P (g x)) xs → AllByRecursion P (flat_map g xs)
 all_joined P g [] a = tt
 all_joined P g (x ∷ xs) a = All-append P (g x) (flat_map g xs) a.0 (all_joined P g xs a.1)
 
-all_parts : {X Y : Type 0} (P : Y → Type 0) (g : X → List Y) (xs : List X) → All P (flat_map g xs) → All (λ x. All P (g x)) xs
+all_parts : {X Y : Type 0} (P : Y → Type 0) (g : X → List Y) (xs : List X) → AllByRecursion P (flat_map g xs) → AllByRecursion (λ x. AllByRecursion P (g x)) xs
 all_parts P g [] a = tt
 all_parts P g (x ∷ xs) a = (all_left P (g x) (flat_map g xs) a, all_parts P g xs (all_right P (g x) (flat_map g xs) a))
 
-pub all_any : {X : Type 0} (P : X → Type 0) (xs : List X) → ((x : X) → P x) → All P xs
+pub all_any : {X : Type 0} (P : X → Type 0) (xs : List X) → ((x : X) → P x) → AllByRecursion P xs
 all_any P [] h = tt
 all_any P (x ∷ xs) h = (h x, all_any P xs h)
 
-all_both : {X : Type 0} (P Q : X → Type 0) (xs : List X) → All P xs → All Q xs → All (λ x. P x × Q x) xs
+all_both : {X : Type 0} (P Q : X → Type 0) (xs : List X) → AllByRecursion P xs → AllByRecursion Q xs → AllByRecursion (λ x. P x × Q x) xs
 all_both P Q [] a b = tt
 all_both P Q (x ∷ xs) a b = ((a.0, b.0), all_both P Q xs a.1 b.1)
 
-pub all_in_order : {X : Type 0} (P : X → Type 0) (key : X → ℕ) (k : ℕ) (xs : List X) → All P xs → All P (in_order key k xs)
+pub all_in_order : {X : Type 0} (P : X → Type 0) (key : X → ℕ) (k : ℕ) (xs : List X) → AllByRecursion P xs → AllByRecursion P (in_order key k xs)
 all_in_order P key k xs a = all_joined P _ (range_with_len 0 k) (all_any _ (range_with_len 0 k) (λ n. all_kept_by (λ x. eqb (key x) n) P xs a))
 
 -- the trees of a list with node n
 with_node : ℕ → List Tree → ℕ
 with_node n xs = total (λ t. cond (eqb (node t) n) 1 0) xs
 
-present : (xs : List Tree) → All (λ t. 0 < with_node (node t) xs) xs
+present : (xs : List Tree) → AllByRecursion (λ t. 0 < with_node (node t) xs) xs
 unfolding with_node
 present [] = tt
 present (x ∷ xs) = (grind (arith, eq-eqb), All-weaker _ _ (λ t h. omega arith) xs (present xs))
 
-first_found : (tree : ℕ → Tree) (d : Tree) (n : ℕ) (xs : List Tree) → All (λ t. tree (node t) ≡ t) xs → 0 < with_node n xs → get_or xs (prefix_len (λ t. not (eqb (node t) n)) xs) d ≡ tree n
+first_found : (tree : ℕ → Tree) (d : Tree) (n : ℕ) (xs : List Tree) → AllByRecursion (λ t. tree (node t) ≡ t) xs → 0 < with_node n xs → get_or xs (prefix_len (λ t. not (eqb (node t) n)) xs) d ≡ tree n
 unfolding with_node
 first_found tree d n [] a h = absurd (omega arith)
 first_found tree d n (x ∷ xs) a h = go (eqb (node x) n) refl (λ k. first_found tree d n xs a.1 k)
@@ -114,7 +114,7 @@ module _ (L : Meaning) (m : Model) (law : Lawful L) (fits : Fitted L m) (s : Sou
 
   -- What is known of a place: its scope, its calls and numbers, and that the places below it are found.
   abbrev pub Good : (Tree → Type 0) → Tree → Type 0
-  Good R t = ((S : Scope) × Scoped L S t) × Calls m t × Numbered m s.tree t × All R (below t)
+  Good R t = ((S : Scope) × Scoped L S t) × Calls m t × Numbered m s.tree t × AllByRecursion R (below t)
 
   pub here : (t : Tree) → Numbered m s.tree t → Here m s.tree t
   here (call n p es) h = h
@@ -124,7 +124,7 @@ module _ (L : Meaning) (m : Model) (law : Lawful L) (fits : Fitted L m) (s : Sou
   here (action n a es x w t) h = h.0
   here (delay n r t) h = h.0
 
-  at_rest : (R P : Tree → Type 0) (t : Tree) → P t → All P (rest (next t))
+  at_rest : (R P : Tree → Type 0) (t : Tree) → P t → AllByRecursion P (rest (next t))
   at_rest R P (call n p es) h = tt
   at_rest R P (when n e t) h = (h, tt)
   at_rest R P (choice n l r) h = (h, tt)
@@ -132,7 +132,7 @@ module _ (L : Meaning) (m : Model) (law : Lawful L) (fits : Fitted L m) (s : Sou
   at_rest R P (action n a es x w t) h = (h, tt)
   at_rest R P (delay n r t) h = (h, tt)
 
-  good_below : (R : Tree → Type 0) (S : Scope) (t : Tree) → Scoped L S t → Calls m t → Numbered m s.tree t → All R (below t) → All (Good R) (below t)
+  good_below : (R : Tree → Type 0) (S : Scope) (t : Tree) → Scoped L S t → Calls m t → Numbered m s.tree t → AllByRecursion R (below t) → AllByRecursion (Good R) (below t)
   good_below R S (call n p es) c k h a = tt
   good_below R S (when n e t) c k h a = good_below R S t c.1 k h.1 a
   good_below R S (choice n l r) c k h a =
@@ -145,21 +145,21 @@ module _ (L : Meaning) (m : Model) (law : Lawful L) (fits : Fitted L m) (s : Sou
       let z = all_right R (rest (next t)) (below t) a in
       All-append _ (rest (next t)) (below t) (at_rest R (Good R) t ((S, c.1), k, h.1, z)) (good_below R S t c.1 k h.1 z)
 
-  good_raw : (R : Tree → Type 0) → All R raw → All (Good R) raw
+  good_raw : (R : Tree → Type 0) → AllByRecursion R raw → AllByRecursion (Good R) raw
   unfolding raw
   good_raw R a = all_joined (Good R) (λ q. q.body ∷ below q.body) m.processes (go m.processes fits s.called s.numbered (all_parts R (λ q. q.body ∷ below q.body) m.processes a))
     where
-      go : (qs : List Process) → All (λ q. Scoped L (param q) q.body) qs → All (λ q. Calls m q.body) qs → All (λ q. Numbered m s.tree q.body) qs
-          → All (λ q. All R (q.body ∷ below q.body)) qs → All (λ q. All (Good R) (q.body ∷ below q.body)) qs
+      go : (qs : List Process) → AllByRecursion (λ q. Scoped L (param q) q.body) qs → AllByRecursion (λ q. Calls m q.body) qs → AllByRecursion (λ q. Numbered m s.tree q.body) qs
+          → AllByRecursion (λ q. AllByRecursion R (q.body ∷ below q.body)) qs → AllByRecursion (λ q. AllByRecursion (Good R) (q.body ∷ below q.body)) qs
       go [] f c n b = tt
       go (q ∷ qs) f c n b =
           ((((param q, f.0), c.0, n.0, b.0.1), good_below R (param q) q.body f.0 c.0 n.0 b.0.1), go qs f.1 c.1 n.1 b.1)
 
   -- the rest of this file uses `All (λ t. Unit) raw` first, to know that the places are numbered, then `Found`
-  pub raw_here : All (Here m s.tree) raw
+  pub raw_here : AllByRecursion (Here m s.tree) raw
   raw_here = All-weaker (Good (λ t. Unit {0})) (Here m s.tree) (λ t g. here t g.2) raw (good_raw (λ t. Unit {0}) (all_any _ raw (λ t. tt)))
 
-  places_found : All (Found L m) raw
+  places_found : AllByRecursion (Found L m) raw
   unfolding raw with_node
   places_found = All-weaker _ _ go raw (all_both _ _ raw raw_here (present raw))
     where
@@ -175,15 +175,15 @@ module _ (L : Meaning) (m : Model) (law : Lawful L) (fits : Fitted L m) (s : Sou
             leading_within (node t) (places m) there,
           )
 
-  pub good : All (Good (Found L m)) (places m)
+  pub good : AllByRecursion (Good (Found L m)) (places m)
   unfolding raw
   good = all_in_order _ node m.nodes raw (good_raw (Found L m) places_found)
 
-  pub found_again : All (Found L m) (places m)
+  pub found_again : AllByRecursion (Found L m) (places m)
   unfolding raw
   found_again = all_in_order _ node m.nodes raw places_found
 
-  leaves_below : (t : Tree) → Numbered m s.tree t → All (λ y. y.leaf < m.nodes) (ways t)
+  leaves_below : (t : Tree) → Numbered m s.tree t → AllByRecursion (λ y. y.leaf < m.nodes) (ways t)
   leaves_below (call n p es) h = tt
   leaves_below (when n e t) h = All-map (λ y. y.leaf < m.nodes) (add_condition e) (ways t) (leaves_below t h.1)
   leaves_below (choice n l r) h = All-append _ (ways l) (ways r) (leaves_below l h.1) (leaves_below r h.2)
@@ -191,11 +191,11 @@ module _ (L : Meaning) (m : Model) (law : Lawful L) (fits : Fitted L m) (s : Sou
   leaves_below (action n a es x w t) h = (h.0.0, tt)
   leaves_below (delay n r t) h = (h.0.0, tt)
 
-  pub bodies_found : All (λ q. Found L m q.body) m.processes
+  pub bodies_found : AllByRecursion (λ q. Found L m q.body) m.processes
   unfolding raw
   bodies_found = All-weaker _ _ (λ q a. a.0) m.processes (all_parts (Found L m) (λ q. q.body ∷ below q.body) m.processes places_found)
 
-  pub next_lands : (t : Tree) → Calls m t → All (Found L m) (rest (next t)) → Lands L m (next t)
+  pub next_lands : (t : Tree) → Calls m t → AllByRecursion (Found L m) (rest (next t)) → Lands L m (next t)
   next_lands (call n p es) k a = All-get_or (λ q. Found L m q.body) m.processes p no_process k.0 bodies_found
   next_lands (when n e t) k a = a.0
   next_lands (choice n l r) k a = a.0
@@ -203,7 +203,7 @@ module _ (L : Meaning) (m : Model) (law : Lawful L) (fits : Fitted L m) (s : Sou
   next_lands (action n b es x w t) k a = a.0
   next_lands (delay n r t) k a = a.0
 
-  pub ways_land : (t : Tree) → Calls m t → All (Found L m) (below t) → All (λ y. Lands L m y.then) (ways t)
+  pub ways_land : (t : Tree) → Calls m t → AllByRecursion (Found L m) (below t) → AllByRecursion (λ y. Lands L m y.then) (ways t)
   ways_land (call n p es) k a = tt
   ways_land (when n e t) k a = All-map (λ y. Lands L m y.then) (add_condition e) (ways t) (ways_land t k a)
   ways_land (choice n l r) k a =
@@ -212,7 +212,7 @@ module _ (L : Meaning) (m : Model) (law : Lawful L) (fits : Fitted L m) (s : Sou
   ways_land (action n b es x w t) k a = (next_lands t k (all_left _ (rest (next t)) (below t) a), tt)
   ways_land (delay n r t) k a = (next_lands t k (all_left _ (rest (next t)) (below t) a), tt)
 
-  keyed : (k : ℕ) (ts : List Tree) → All (Good (Found L m)) ts → All (λ (z : ℕ × Way). z.1.leaf < m.nodes) (flat_map (λ (z : ℕ × Tree). map {B = ℕ × Way} (λ y. (z.0, y)) (ways z.1)) (numbered k ts))
+  keyed : (k : ℕ) (ts : List Tree) → AllByRecursion (Good (Found L m)) ts → AllByRecursion (λ (z : ℕ × Way). z.1.leaf < m.nodes) (flat_map (λ (z : ℕ × Tree). map {B = ℕ × Way} (λ y. (z.0, y)) (ways z.1)) (numbered k ts))
   keyed k [] a = tt
   keyed k (t ∷ ts) a = All-append _ _ _ (All-map (λ (z : ℕ × Way). z.1.leaf < m.nodes) (λ y. (k, y)) (ways t) (leaves_below t a.0.2)) (keyed (suc k) ts a.1)
 

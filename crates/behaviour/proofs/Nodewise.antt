@@ -1,6 +1,6 @@
 -- What stands above a node passes from each node of an accepted model to its children, and a place has its own. Assumes nothing.
 use Rattle.std.proofs.Common.{◌≡◌, ℕ, zero, suc, ◌+◌, ◌-◌, ◌<◌, ◌≤◌, Bool, true, false, cond, eqb, List, get_or, Some, None, Option, sym, refl, ap, ◌∙◌, subst, ap₂, inl, inr, ⊎_elim, arith}
-use Rattle.std.specs.List.{range_with_len, AllByRecursion as All}
+use Rattle.std.specs.List.{range_with_len, AllByRecursion}
 use Rattle.std.proofs.ByRecursion.{All-map}
 use Rattle.std.proofs.lemmas.Bool.{eq-eqb, eqb-true, or_parts, or_cases, or_left, or_right, cases_Bool, cases_lt, both_ways}
 use Rattle.linear.specs.Equations.{Guarded}
@@ -206,7 +206,7 @@ module _ (bs : List ℕ) (w : WellFormed bs) where
     body_up p low = unhanded (node_in g) start (body_of bs l p) (body_not p low) ∙ starts (body_of bs l p) (inl (p, (low, refl)))
 
     -- what `by_node` asks for
-    pub all_pass : All (λ q. (up (node q.body) ≡ place_itself (counter (model_of g) (node q.body))) × Passes (model_of g) (tree_of g) up q.body) (model_of g).processes
+    pub all_pass : AllByRecursion (λ q. (up (node q.body) ≡ place_itself (counter (model_of g) (node q.body))) × Passes (model_of g) (tree_of g) up q.body) (model_of g).processes
     all_pass =
         All-map _ (headed g) g.processes (All-map _ (process_of bs l) (range_with_len 0 (process_count bs l))
         (all_counting _ 0 (process_count bs l) (process_count bs l) (omega arith) (λ p low.

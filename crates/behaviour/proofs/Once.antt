@@ -1,6 +1,6 @@
 -- Scopes in which no variable is bound anew. Assumes nothing.
 use Rattle.std.proofs.Common.{◌≡◌, ℕ, suc, ◌≤◌, true, false, eqb, List, [], ◌∷◌, get_or, ap, ⊎_elim, arith}
-use Rattle.std.specs.List.{AllByRecursion as All}
+use Rattle.std.specs.List.{AllByRecursion}
 use Rattle.std.proofs.lemmas.Bool.{cases_Bool, or_cases, eqb-true}
 use Rattle.language.specs.Meanings.{Meaning}
 use Rattle.model.specs.Trees.{Tree, call, when, choice, sum, action, delay}
@@ -14,15 +14,15 @@ Agrees ρ σ x = get_or ρ x 0 ≡ get_or σ x 0
 module _ (L : Meaning) where
   -- Every expression names only variables in scope, and no variable is bound where it is in scope.
   abbrev pub Scoped : Scope → Tree → Type 0
-  Scoped S (call n p es) = All (Within L S) es
+  Scoped S (call n p es) = AllByRecursion (Within L S) es
   Scoped S (when n e t) = Within L S e × Scoped S t
   Scoped S (choice n l r) = Scoped S l × Scoped S r
   Scoped S (sum n x t) = (S x ≡ false) × Scoped (adding x S) t
-  Scoped S (action n a es x w t) = (S x ≡ false) × All (Within L S) es × Within L (adding x S) w × Scoped (adding x S) t
+  Scoped S (action n a es x w t) = (S x ≡ false) × AllByRecursion (Within L S) es × Within L (adding x S) w × Scoped (adding x S) t
   Scoped S (delay n r t) = Within L S r × Scoped S t
 
   abbrev pub Fitted : Model → Type 0
-  Fitted m = All (λ q. Scoped (param q) q.body) m.processes
+  Fitted m = AllByRecursion (λ q. Scoped (param q) q.body) m.processes
 
   module _ (owner : ℕ → ℕ) where
     -- what is in scope is bound before node k
@@ -49,6 +49,6 @@ module _ (L : Meaning) where
   pub fitted : (m : Model) → Fits L m → Sound m → Fitted m
   fitted m f s = go m.processes f s.owned
     where
-      go : (qs : List Process) → All (λ q. InScope L (param q) q.body) qs → All (λ q. ((x : ℕ) → param q x ≡ true → s.owner x ≡ 0) × Owned s.owner 0 q.body) qs → All (λ q. Scoped (param q) q.body) qs
+      go : (qs : List Process) → AllByRecursion (λ q. InScope L (param q) q.body) qs → AllByRecursion (λ q. ((x : ℕ) → param q x ≡ true → s.owner x ≡ 0) × Owned s.owner 0 q.body) qs → AllByRecursion (λ q. Scoped (param q) q.body) qs
       go [] f o = tt
       go (q ∷ qs) f o = (scoped s.owner (param q) 0 q.body f.0 o.0.1 (λ x i. let h = o.0.0 x i in omega arith), go qs f.1 o.1)

@@ -1,6 +1,6 @@
 -- Where each node is a child or a body once, each action or delay node gives one summand. Assumes nothing.
 use Rattle.std.proofs.Common.{◌≡◌, ℕ, zero, suc, ◌+◌, ◌*◌, ◌<◌, ◌≤◌, Bool, true, false, cond, eqb, ◌⊎◌, List, [], ◌∷◌, ◌++◌, sym, refl, ap, ◌∙◌, inl, inr, ⊎_elim, arith}
-use Rattle.std.specs.List.{range_with_len, flat_map, AllByRecursion as All}
+use Rattle.std.specs.List.{range_with_len, flat_map, AllByRecursion}
 use Rattle.std.proofs.ByRecursion.{All-weaker, All-append}
 use Rattle.std.proofs.lemmas.Bool.{eqb-true, cases_lt}
 use Rattle.model.specs.Trees.{Tree, call, when, choice, sum, action, delay}
@@ -111,7 +111,7 @@ times k v (x ∷ xs) = go (eqb x k) (times k v xs)
     go false e = omega arith
 
 -- a sum over numbers each of which counts once, or for nothing
-spread_out : (f : ℕ → ℕ) (b : ℕ) (xs : List ℕ) → All (λ x. x < b) xs → ((k : ℕ) → k < b → (f k ≡ 0) ⊎ (total (is k) xs ≡ 1)) → total f xs ≡ total f (range_with_len 0 b)
+spread_out : (f : ℕ → ℕ) (b : ℕ) (xs : List ℕ) → AllByRecursion (λ x. x < b) xs → ((k : ℕ) → k < b → (f k ≡ 0) ⊎ (total (is k) xs ≡ 1)) → total f xs ≡ total f (range_with_len 0 b)
 spread_out f b xs l h =
     total_all _ _ xs (All-weaker _ _ (λ j i. sym (at_one f j 0 b (omega arith) (omega arith))) xs l)
     ∙ total_swap (λ j k. cond (eqb j k) (f k) 0) xs (range_with_len 0 b)
@@ -123,7 +123,7 @@ spread_out f b xs l h =
     single : (k : ℕ) → total (is k) xs ≡ 1 → total (is k) xs * f k ≡ f k
     single k e = rw e (omega arith)
 
-numbers_below : (m : Model) (tree : ℕ → Tree) (t : Tree) → Numbered m tree t → All (λ n. n < m.nodes) (nodes_of t)
+numbers_below : (m : Model) (tree : ℕ → Tree) (t : Tree) → Numbered m tree t → AllByRecursion (λ n. n < m.nodes) (nodes_of t)
 numbers_below m tree (call n p es) h = (h.0, tt)
 numbers_below m tree (when n e t) h = (h.0.0, numbers_below m tree t h.1)
 numbers_below m tree (choice n l r) h = (h.0.0, All-append _ (nodes_of l) (nodes_of r) (numbers_below m tree l h.1) (numbers_below m tree r h.2))
@@ -140,7 +140,7 @@ module _ (m : Model) (s : Sound m) (w : PlacedOnce m s.tree) where
   unfoldable pub all_nodes : List ℕ
   all_nodes = flat_map (λ q. nodes_of q.body) m.processes
 
-  pub all_below : All (λ n. n < m.nodes) all_nodes
+  pub all_below : AllByRecursion (λ n. n < m.nodes) all_nodes
   unfolding all_nodes
   all_below = all_joined _ (λ q. nodes_of q.body) m.processes (All-weaker _ _ (λ q h. numbers_below m s.tree q.body h) m.processes s.numbered)
 
@@ -171,7 +171,7 @@ module _ (m : Model) (s : Sound m) (w : PlacedOnce m s.tree) where
       ∙ times i (is_leaf (s.tree i)) all_nodes
       ∙ (let e = occurs (suc i) i (omega arith) l in rw e (omega arith))
     where
-      go : (xs : List ℕ) → All (λ k. cond (eqb k i) (is_leaf (s.tree k)) 0 ≡ cond (eqb k i) (is_leaf (s.tree i)) 0) xs
+      go : (xs : List ℕ) → AllByRecursion (λ k. cond (eqb k i) (is_leaf (s.tree k)) 0 ≡ cond (eqb k i) (is_leaf (s.tree i)) 0) xs
       go [] = tt
       go (k ∷ ks) = (at k (eqb k i) refl, go ks)
         where

@@ -3,7 +3,7 @@ use Rattle.std.proofs.Common.{◌≡◌, ℕ, ◌+◌, ◌-◌, ◌<◌, ◌≤�
 use mathlib.Core.Path.{fun_ext}
 use lib.ListN.{get_or-eq_default}
 use lib.Seq.{set_out}
-use Rattle.std.specs.List.{flat_map, AllByRecursion as All}
+use Rattle.std.specs.List.{flat_map, AllByRecursion}
 use Rattle.std.proofs.ByRecursion.{All-get_or}
 use Rattle.std.proofs.lemmas.Bool.{ne_eqb, or_left, or_right, or_cases, or_parts, or_from, and_parts, cases_eq, cases_lt, both_ways, not-true, leb-true, ltb-true}
 use Rattle.language.specs.Meanings.{Meaning, Lawful}
@@ -45,7 +45,7 @@ module _ (L : Meaning) where
   unbound S (action n a es y w t) x s i = fresh S y t x s.0 i (unbound (adding y S) t x s.3 (or_right _ _ i))
   unbound S (delay n r t) x s i = unbound S t x s.1 i
 
-  from_args : (S : Scope) (es : List ℕ) (x : ℕ) → All (Within L S) es → named_in L es x ≡ true → S x ≡ true
+  from_args : (S : Scope) (es : List ℕ) (x : ℕ) → AllByRecursion (Within L S) es → named_in L es x ≡ true → S x ≡ true
   from_args S [] x a h = absurd (both_ways _ refl h)
   from_args S (e ∷ es) x a h = ⊎_elim (a.0.1 x) (from_args S es x a.1) (or_cases _ _ h)
 
@@ -72,7 +72,7 @@ module _ (L : Meaning) where
   alike_set : (S : Scope) (p : ℕ → Bool) (ρ σ : List ℕ) (y d : ℕ) → Alike S p ρ σ → Alike (adding y S) p (set ρ y d) (set σ y d)
   alike_set S p ρ σ y d a = (length-set ρ y d ∙ a.0 ∙ sym (length-set σ y d), λ x i k. agree_set ρ σ y d x a.0 (λ ne. a.1 x (out S y x ne i) k))
 
-map_same : {X Y : Type 0} (f g : X → Y) (xs : List X) → All (λ x. f x ≡ g x) xs → map f xs ≡ map g xs
+map_same : {X Y : Type 0} (f g : X → Y) (xs : List X) → AllByRecursion (λ x. f x ≡ g x) xs → map f xs ≡ map g xs
 map_same f g [] a = refl
 map_same f g (x ∷ xs) a = ap₂ {C = List _} ◌∷◌ a.0 (map_same f g xs a.1)
 
@@ -80,8 +80,8 @@ module _ (L : Meaning) (law : Lawful L) (m : Model) where
   value_same : (S : Scope) (p : ℕ → Bool) (ρ σ : List ℕ) (e : ℕ) → Within L S e → ((x : ℕ) → L.names e x ≡ true → p x ≡ true) → Alike L S p ρ σ → L.value e ρ ≡ L.value e σ
   value_same S p ρ σ e w h a = law.agrees e ρ σ (λ x k. a.1 x (w.1 x k) (h x k))
 
-  values_same : (S : Scope) (p : ℕ → Bool) (ρ σ : List ℕ) (es : List ℕ) → All (Within L S) es → ((x : ℕ) → named_in L es x ≡ true → p x ≡ true) → Alike L S p ρ σ
-      → All (λ e. L.value e ρ ≡ L.value e σ) es
+  values_same : (S : Scope) (p : ℕ → Bool) (ρ σ : List ℕ) (es : List ℕ) → AllByRecursion (Within L S) es → ((x : ℕ) → named_in L es x ≡ true → p x ≡ true) → Alike L S p ρ σ
+      → AllByRecursion (λ e. L.value e ρ ≡ L.value e σ) es
   values_same S p ρ σ [] w h a = tt
   values_same S p ρ σ (e ∷ es) w h a = (value_same S p ρ σ e w.0 (λ x k. h x (or_left _ _ k)) a, values_same S p ρ σ es w.1 (λ x k. h x (or_right _ _ k)) a)
 
@@ -92,7 +92,7 @@ module _ (L : Meaning) (law : Lawful L) (m : Model) where
       go x false e = refl
       go x true e = let n = and_parts (named L t x) (not (bound t x)) e in a.1 x (inside L S t x s n.0 (not-true _ n.1)) n.0
 
-  call_same : (p : ℕ) (es : List ℕ) (ρ σ : List ℕ) → length es ≡ (process m p).params → All (λ e. L.value e ρ ≡ L.value e σ) es → target L m (calls p es) ρ ≡ target L m (calls p es) σ
+  call_same : (p : ℕ) (es : List ℕ) (ρ σ : List ℕ) → length es ≡ (process m p).params → AllByRecursion (λ e. L.value e ρ ≡ L.value e σ) es → target L m (calls p es) ρ ≡ target L m (calls p es) σ
   call_same p es ρ σ len a = ap (term L m.sizes (process m p).body) (fun_ext (λ x. go x (param (process m p) x) refl))
     where
       go : (x : ℕ) (b : Bool) → param (process m p) x ≡ b → cond b (cut m.sizes x (L.value (get_or es (x - (process m p).first) 0) ρ)) 0 ≡ cond b (cut m.sizes x (L.value (get_or es (x - (process m p).first) 0) σ)) 0
@@ -111,7 +111,7 @@ module _ (L : Meaning) (law : Lawful L) (m : Model) where
   target_same S (delay n r t) ρ σ s c a = rest_same S (delay n r t) ρ σ s a
 
   acts_same : {S : Type 0} (a : ℕ) (es : List ℕ) (x w : ℕ) (to : List ℕ → S) (ρ σ : List ℕ)
-      → All (λ e. L.value e ρ ≡ L.value e σ) es → ((d : ℕ) → L.value w (set ρ x d) ≡ L.value w (set σ x d)) → ((d : ℕ) → to (set ρ x d) ≡ to (set σ x d))
+      → AllByRecursion (λ e. L.value e ρ ≡ L.value e σ) es → ((d : ℕ) → L.value w (set ρ x d) ≡ L.value w (set σ x d)) → ((d : ℕ) → to (set ρ x d) ≡ to (set σ x d))
       → does L m.sizes (acts a es x w) to ρ ≡ does L m.sizes (acts a es x w) to σ
   acts_same {S} a es x w to ρ σ h i j =
       ap₂ (λ (vs : List ℕ) (os : List (Outcome S)). cond (eqb (sum_by (λ o. o.weight) os) 0) [] (move a vs os ∷ []))

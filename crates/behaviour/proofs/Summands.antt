@@ -1,6 +1,6 @@
 -- The summands of an accepted model, node by node. Assumes nothing.
 use Rattle.std.proofs.Common.{◌≡◌, ℕ, List, [], ◌∷◌, ◌++◌, map, replicate, Some, Option, sym, refl, ap, ◌∙◌, ap₂, arith}
-use Rattle.std.specs.List.{range_with_len, flat_map, AllByRecursion as All}
+use Rattle.std.specs.List.{range_with_len, flat_map, AllByRecursion}
 use Rattle.std.proofs.lemmas.List.{append_assoc}
 use Rattle.language.specs.Meanings.{Meaning}
 use Rattle.valuation.specs.Doings.{Does}
@@ -36,7 +36,7 @@ joined_joined {X} {Y} {Z} h f (x ∷ xs) = joined_append (f x) (flat_map f xs) �
     joined_append [] zs = refl
     joined_append (y ∷ ys) zs = ap {B = List Z} (λ r. h y ++ r) (joined_append ys zs) ∙ sym (append_assoc (h y) (flat_map h ys) (flat_map h zs))
 
-joined_same : {X Z : Type 0} (f g : X → List Z) (xs : List X) → All (λ x. f x ≡ g x) xs → flat_map f xs ≡ flat_map g xs
+joined_same : {X Z : Type 0} (f g : X → List Z) (xs : List X) → AllByRecursion (λ x. f x ≡ g x) xs → flat_map f xs ≡ flat_map g xs
 joined_same f g [] a = refl
 joined_same f g (x ∷ xs) a = ap₂ {C = List _} ◌++◌ a.0 (joined_same f g xs a.1)
 

@@ -12,7 +12,7 @@ use Rattle.behaviour.specs.Reached.{Reached}
 use Rattle.behaviour.specs.Lists.{move_to, delay_to, same_move, rate_into}
 
 pub record Behaves (L : language.Meaning) (m : Model) (tree : ℕ → Tree)
-    (linear : Meaning) (linear_delays : List ℕ → List Delay) (source : Meaning) (sourceDelays : List ℕ → List Delay)
+    (linear : Meaning) (linear_delays : List ℕ → List Delay) (source : Meaning) (source_delays : List ℕ → List Delay)
     (stands : List ℕ → Term) (words : Term → List ℕ) : Type 0 where
   -- whatever is called on a new walk over the equation, refused calls included, its vector stands for a term that the model
   -- reaches by the steps of the walk's trail
@@ -25,12 +25,12 @@ pub record Behaves (L : language.Meaning) (m : Model) (tree : ℕ → Tree)
       → count_by (same_move v) (map (move_to (λ y. words (stands y))) (linear.moves x)) ≡ count_by (same_move v) (source.moves (words (stands x)))
   -- and the rates of its delays into any term have the same sum
   pub rates : (x : List ℕ) → linear.member x ≡ true → (t : List ℕ)
-      → sum_by (rate_into t) (map (delay_to (λ y. words (stands y))) (linear_delays x)) ≡ sum_by (rate_into t) (sourceDelays (words (stands x)))
+      → sum_by (rate_into t) (map (delay_to (λ y. words (stands y))) (linear_delays x)) ≡ sum_by (rate_into t) (source_delays (words (stands x)))
   -- whatever is summed over its moves, and over its delays
   pub all_moves : (x : List ℕ) → linear.member x ≡ true → (f : Move → ℕ)
       → sum_by f (map (move_to (λ y. words (stands y))) (linear.moves x)) ≡ sum_by f (source.moves (words (stands x)))
   pub all_delays : (x : List ℕ) → linear.member x ≡ true → (g : Delay → ℕ)
-      → sum_by g (map (delay_to (λ y. words (stands y))) (linear_delays x)) ≡ sum_by g (sourceDelays (words (stands x)))
+      → sum_by g (map (delay_to (λ y. words (stands y))) (linear_delays x)) ≡ sum_by g (source_delays (words (stands x)))
   -- the term is a state of the source
   pub stays : (x : List ℕ) → linear.member x ≡ true → source.member (words (stands x)) ≡ true
 

@@ -1,6 +1,6 @@
 -- What the equation of a model keeps of its terms, for vectors and terms as records.
 use Rattle.std.specs.Prelude.{◌≡◌, ℕ, List, sum_by}
-use Rattle.std.specs.List.{AllByRecursion as All}
+use Rattle.std.specs.List.{AllByRecursion}
 use Rattle.language.specs.Meanings.{Meaning, Lawful}
 use Rattle.valuation.specs.Transitions.{Transition}
 use Rattle.linear.specs.Equations.{Vector}
@@ -19,8 +19,8 @@ module _ (L : Meaning) (m : Model) (s : Sound m) where
     -- both sides have the same transitions, each as often, whatever is counted of a transition
     pub same : (v : Vector) → InSet m v → (f : Transition Term → ℕ) → sum_by f (term_transitions L m s.tree (stands L m v)) ≡ sum_by f (standing L m v)
     -- targets of vectors are vectors, and of terms terms
-    pub closed : (v : Vector) → InSet m v → All (To (InSet m)) (transitions_in L (equation_of L m) v)
-    pub terms_closed : (t : Term) → InTerms L m t → All (To (InTerms L m)) (term_transitions L m s.tree t)
+    pub closed : (v : Vector) → InSet m v → AllByRecursion (To (InSet m)) (transitions_in L (equation_of L m) v)
+    pub terms_closed : (t : Term) → InTerms L m t → AllByRecursion (To (InTerms L m)) (term_transitions L m s.tree t)
     -- the first vector is a vector, and stands for the first term
     pub starts : InSet m (start_vector m) × InTerms L m (start_term L m) × (stands L m (start_vector m) ≡ start_term L m)
 
@@ -31,6 +31,6 @@ Keeps = (L : Meaning) (m : Model) → Lawful L → Fits L m → (s : Sound m) �
 abbrev pub BehavesOverSides : Type 0
 BehavesOverSides =
     (L : Meaning) (m : Model) → Lawful L → Fits L m → (s : Sound m)
-    (linear : system.Meaning) (linear_delays : List ℕ → List system.Delay) (source : system.Meaning) (sourceDelays : List ℕ → List system.Delay)
-    → LinearAnswers L m linear linear_delays → SourceAnswers L m s.tree source sourceDelays
-    → Behaves L m s.tree linear linear_delays source sourceDelays (stands_for L m) term_words
+    (linear : system.Meaning) (linear_delays : List ℕ → List system.Delay) (source : system.Meaning) (source_delays : List ℕ → List system.Delay)
+    → LinearAnswers L m linear linear_delays → SourceAnswers L m s.tree source source_delays
+    → Behaves L m s.tree linear linear_delays source source_delays (stands_for L m) term_words

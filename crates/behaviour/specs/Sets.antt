@@ -1,6 +1,6 @@
 -- Which vectors and which terms there are.
 use Rattle.std.specs.Prelude.{◌≡◌, ℕ, ◌<◌, ◌≤◌, false, length, slice_index}
-use Rattle.std.specs.List.{AllByRecursion as All}
+use Rattle.std.specs.List.{AllByRecursion}
 use Rattle.language.specs.Meanings.{Meaning}
 use Rattle.valuation.specs.Transitions.{Transition, move, wait}
 use Rattle.linear.specs.Equations.{Vector}
@@ -25,5 +25,5 @@ InTerms L m s =
 
 -- every target of a transition
 abbrev pub To : {S : Type 0} → (S → Type 0) → Transition S → Type 0
-To P (move a args outs) = All (λ o. P o.to) outs
+To P (move a args outs) = AllByRecursion (λ o. P o.to) outs
 To P (wait r s) = P s

@@ -34,7 +34,7 @@ pub record LinearAnswers (L : language.Meaning) (m : Model) (linear : Meaning) (
   pub moves : (x : List ℕ) → linear.member x ≡ true → linear.moves x ≡ moves_as vector_words (transitions_in L (equation_of L m) (vector_of x))
   pub delays : (x : List ℕ) → linear.member x ≡ true → linear_delays x ≡ delays_as vector_words (transitions_in L (equation_of L m) (vector_of x))
 
-pub record SourceAnswers (L : language.Meaning) (m : Model) (tree : ℕ → Tree) (source : Meaning) (sourceDelays : List ℕ → List Delay) : Type 0 where
+pub record SourceAnswers (L : language.Meaning) (m : Model) (tree : ℕ → Tree) (source : Meaning) (source_delays : List ℕ → List Delay) : Type 0 where
   pub member : (t : Term) → InTerms L m t → source.member (term_words t) ≡ true
   pub moves : (t : Term) → InTerms L m t → source.moves (term_words t) ≡ moves_as term_words (term_transitions L m tree t)
-  pub delays : (t : Term) → InTerms L m t → sourceDelays (term_words t) ≡ delays_as term_words (term_transitions L m tree t)
+  pub delays : (t : Term) → InTerms L m t → source_delays (term_words t) ≡ delays_as term_words (term_transitions L m tree t)

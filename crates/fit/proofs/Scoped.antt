@@ -1,7 +1,7 @@
 -- A language fits the trees of an accepted model just where no node is at fault.
 use Rattle.std.proofs.Common.{◌≡◌, ℕ, zero, suc, ◌+◌, ◌<◌, ◌≤◌, true, false, ◌||◌, List, [], ◌∷◌, map, length, get_or, is_ok, Some, sym, subst, arith}
 use mathlib.Core.Path.{fun_ext}
-use Rattle.std.specs.List.{range_with_len, AllByRecursion as All}
+use Rattle.std.specs.List.{range_with_len, AllByRecursion}
 use Rattle.std.proofs.ByRecursion.{All-map, All-get_or, All-from_get_or}
 use Rattle.language.specs.Meanings.{Meaning, Lawful}
 use Rattle.model_file.specs.declared.layout.Layout.{Layout}
@@ -39,7 +39,7 @@ module _ (L : Meaning) (g : Flat) where
   abbrev KidIn : Shape → Scope → (ℕ → Tree) → ℕ → Type 0
   KidIn s S T c = InScope L (λ x. in_node (λ v. own_binds v x) (value_in g (Some s)) || S x) (T c)
 
-  split : (n : ℕ) (s : Shape) (T : ℕ → Tree) (S : Scope) → InScope L S (planted g n s T) → RootIn L S (planted g n s T) × All (KidIn s S T) (children_of s)
+  split : (n : ℕ) (s : Shape) (T : ℕ → Tree) (S : Scope) → InScope L S (planted g n s T) → RootIn L S (planted g n s T) × AllByRecursion (KidIn s S T) (children_of s)
   split n (shape.Call p f) T S h = (h, tt)
   split n (shape.Condition e c) T S h = (h.0, (h.1, tt))
   split n (shape.Choice x y) T S h = (tt, (h.0, (h.1, tt)))
@@ -47,7 +47,7 @@ module _ (L : Meaning) (g : Flat) where
   split n (shape.Action a f v w c) T S h = ((h.0, h.1), (h.2, tt))
   split n (shape.Delay r c) T S h = (h.0, (h.1, tt))
 
-  join : (n : ℕ) (s : Shape) (T : ℕ → Tree) (S : Scope) → RootIn L S (planted g n s T) → All (KidIn s S T) (children_of s) → InScope L S (planted g n s T)
+  join : (n : ℕ) (s : Shape) (T : ℕ → Tree) (S : Scope) → RootIn L S (planted g n s T) → AllByRecursion (KidIn s S T) (children_of s) → InScope L S (planted g n s T)
   join n (shape.Call p f) T S h k = h
   join n (shape.Condition e c) T S h k = (h, k.0)
   join n (shape.Choice x y) T S h k = (k.0, k.1.0)
@@ -106,7 +106,7 @@ module _ (L : Meaning) (law : Lawful L) (bs : List ℕ) (lawful : is_ok (judged 
       all_nth (λ (q : header.Process). InScope L (param (headed g q)) (tree_of g q.body)) g.processes p (process_of bs l p) (un_map _ (headed g) g.processes f)
       (sym (numbered_nth (process_of bs l) P p low))
     where
-      un_map : {X Y : Type 0} (Q : Y → Type 0) (h : X → Y) (xs : List X) → All Q (map h xs) → All (λ x. Q (h x)) xs
+      un_map : {X Y : Type 0} (Q : Y → Type 0) (h : X → Y) (xs : List X) → AllByRecursion Q (map h xs) → AllByRecursion (λ x. Q (h x)) xs
       un_map Q h [] a = tt
       un_map Q h (x ∷ xs) a = (a.0, un_map Q h xs a.1)
 

@@ -1,7 +1,7 @@
 -- The tests of a node's expressions, and what they say of the expressions at the root of its tree.
 -- Assumes that expressions name variables below 16 only.
 use Rattle.std.proofs.Common.{◌≡◌, ℕ, ◌<◌, Bool, true, false, not, ◌&&◌, ◌||◌, eqb, leb, List, [], ◌∷◌, Some, sym, refl, subst, ⊎_elim}
-use Rattle.std.specs.List.{AllByRecursion as All}
+use Rattle.std.specs.List.{AllByRecursion}
 use Rattle.std.proofs.lemmas.Bool.{or_parts, or_from, and_cases, and_right, not-false, not_from_true, cases_Bool, and_left, both_ways, leb-false, lt-leb}
 use Rattle.words.specs.Words.{bytes_of}
 use Rattle.language.specs.Meanings.{Meaning, Lawful}
@@ -39,7 +39,7 @@ module _ (L : Meaning) (law : Lawful L) where
     λ x. ⊎_elim (λ (z : L.names e x ≡ true). and_right (L.names e x) (not (S x)) (not_from_true (S x) (w.1 x z))) (λ (z : L.names e x ≡ false). and_left (L.names e x) (not (S x)) z) (cases_Bool (L.names e x)),
   )
 
-  list_to : (S : Scope) (es : List ℕ) → any_of (leb L.count) es ≡ false → ((x : ℕ) → x < 16 → (any_of (λ e. L.names e x) es && not (S x)) ≡ false) → All (Within L S) es
+  list_to : (S : Scope) (es : List ℕ) → any_of (leb L.count) es ≡ false → ((x : ℕ) → x < 16 → (any_of (λ e. L.names e x) es && not (S x)) ≡ false) → AllByRecursion (Within L S) es
   list_to S [] b h = tt
   list_to S (e ∷ es) b h =
       let p = or_parts (leb L.count e) (any_of (leb L.count) es) b in (
@@ -47,7 +47,7 @@ module _ (L : Meaning) (law : Lawful L) where
         list_to S es p.1 (λ x i. (either_not (L.names e x) (any_of (λ d. L.names d x) es) (not (S x)) (h x i)).1),
       )
 
-  list_from : (S : Scope) (es : List ℕ) → All (Within L S) es → (any_of (leb L.count) es ≡ false) × ((x : ℕ) → (any_of (λ e. L.names e x) es && not (S x)) ≡ false)
+  list_from : (S : Scope) (es : List ℕ) → AllByRecursion (Within L S) es → (any_of (leb L.count) es ≡ false) × ((x : ℕ) → (any_of (λ e. L.names e x) es && not (S x)) ≡ false)
   list_from S [] a = (refl, λ x. refl)
   list_from S (e ∷ es) a =
       let p = one_from S e a.0 in
@@ -56,11 +56,11 @@ module _ (L : Meaning) (law : Lawful L) where
 
   module _ (g : Flat) (n : ℕ) (T : ℕ → Tree) (S : Scope) where
     -- arguments are handed out as bytes
-    bytes_to : (es : List ℕ) → any_of (leb L.count) (words_in (bytes_of es)) ≡ false → ((x : ℕ) → x < 16 → (any_of (λ e. L.names e x) (words_in (bytes_of es)) && not (S x)) ≡ false) → All (Within L S) es
-    bytes_to es b h = subst (All (Within L S)) (words_back es) (list_to S (words_in (bytes_of es)) b h)
+    bytes_to : (es : List ℕ) → any_of (leb L.count) (words_in (bytes_of es)) ≡ false → ((x : ℕ) → x < 16 → (any_of (λ e. L.names e x) (words_in (bytes_of es)) && not (S x)) ≡ false) → AllByRecursion (Within L S) es
+    bytes_to es b h = subst (AllByRecursion (Within L S)) (words_back es) (list_to S (words_in (bytes_of es)) b h)
 
-    bytes_from : (es : List ℕ) → All (Within L S) es → (any_of (leb L.count) (words_in (bytes_of es)) ≡ false) × ((x : ℕ) → (any_of (λ e. L.names e x) (words_in (bytes_of es)) && not (S x)) ≡ false)
-    bytes_from es a = list_from S (words_in (bytes_of es)) (subst (All (Within L S)) (sym (words_back es)) a)
+    bytes_from : (es : List ℕ) → AllByRecursion (Within L S) es → (any_of (leb L.count) (words_in (bytes_of es)) ≡ false) × ((x : ℕ) → (any_of (λ e. L.names e x) (words_in (bytes_of es)) && not (S x)) ≡ false)
+    bytes_from es a = list_from S (words_in (bytes_of es)) (subst (AllByRecursion (Within L S)) (sym (words_back es)) a)
 
     pub root_to : (s : Shape) → in_node (uses_beyond L.count) (value_in g (Some s)) ≡ false → ((x : ℕ) → x < 16 → in_node (strays L x (S x)) (value_in g (Some s)) ≡ false) → RootIn L S (planted g n s T)
     root_to (shape.Call p f) b h = bytes_to (arguments_from g f (call_arity g p)) b h

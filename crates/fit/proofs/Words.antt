@@ -1,6 +1,6 @@
 -- A language fits a model in words just where it fits the model's trees. Assumes nothing.
 use Rattle.std.proofs.Common.{◌≡◌, ℕ, zero, suc, ◌+◌, ◌-◌, ◌<◌, true, eqb, ltb, leb, ◌⊎◌, List, [], ◌∷◌, Some, None, Option, refl, subst, inl, inr, ⊎_elim, arith}
-use Rattle.std.specs.List.{slice_get, AllByRecursion as All}
+use Rattle.std.specs.List.{slice_get, AllByRecursion}
 use Rattle.std.proofs.lemmas.Bool.{or_cases, or_left, or_right, and_parts, and_from, eqb-true, eq-eqb, leb-true, ltb-true, le-leb, lt-ltb}
 use Rattle.words.specs.Headers.{Iff}
 use Rattle.language.specs.Meanings.{Meaning}
@@ -13,12 +13,12 @@ use Rattle.fit.specs.InWords.{Reads, Weighs, BoundAbove, IsParameter, Known, Sui
 none_some : {X : Type 0} {x : X} → ◌≡◌ {A = Option X} None (Some x) → ⊥
 none_some e = let z : ◌≡◌ {A = ℕ} 0 1 = cc in omega arith
 
-pub all_nth : {X : Type 0} (P : X → Type 0) (xs : List X) (k : ℕ) (x : X) → All P xs → slice_get xs k ≡ Some x → P x
+pub all_nth : {X : Type 0} (P : X → Type 0) (xs : List X) (k : ℕ) (x : X) → AllByRecursion P xs → slice_get xs k ≡ Some x → P x
 all_nth P [] k x a e = absurd (none_some e)
 all_nth P (y ∷ ys) zero x a e = let q : y ≡ x = cc in subst P q a.0
 all_nth P (y ∷ ys) (suc k) x a e = all_nth P ys k x a.1 e
 
-pub nth_all : {X : Type 0} (P : X → Type 0) (xs : List X) → ((k : ℕ) (x : X) → slice_get xs k ≡ Some x → P x) → All P xs
+pub nth_all : {X : Type 0} (P : X → Type 0) (xs : List X) → ((k : ℕ) (x : X) → slice_get xs k ≡ Some x → P x) → AllByRecursion P xs
 nth_all P [] h = tt
 nth_all P (y ∷ ys) h = (h 0 y refl, nth_all P ys (λ k x e. h (suc k) x e))
 
@@ -73,11 +73,11 @@ param_from q x (i, l, e) = and_from (leb q.first x) (ltb x (q.first + q.params))
 module _ (L : Meaning) where
   -- the expressions that the node at the root uses, S being the scope there
   abbrev pub RootIn : Scope → Tree → Type 0
-  RootIn S (call n p es) = All (Within L S) es
+  RootIn S (call n p es) = AllByRecursion (Within L S) es
   RootIn S (when n e t) = Within L S e
   RootIn S (choice n l r) = Unit {0}
   RootIn S (sum n x t) = Unit {0}
-  RootIn S (action n a es x w t) = All (Within L S) es × Within L (adding x S) w
+  RootIn S (action n a es x w t) = AllByRecursion (Within L S) es × Within L (adding x S) w
   RootIn S (delay n r t) = Within L S r
 
   root : (t : Tree) (S : Scope) → InScope L S t → RootIn S t

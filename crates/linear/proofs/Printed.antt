@@ -97,33 +97,33 @@ module _ (bs : List ℕ) where
       let there = sym (entries_read es (p + 2) h) ∙ ap (entries_from bs (p + 2)) long in
       then_ok _ (word_read q p t.counter room is) (ap (λ o. Ok (made o)) there ∙ sym (cond-true (leb (p + 2 + 4 * v) (length bs)) (Ok (made (entries_from bs (p + 2) v))) (Err (Length q)) (le-leb (p + 2 + 4 * v) (length bs) (omega arith))))
 
-  module _ {D : Type 0} (doesIn : List ℕ → Place → ℕ → Result D LinearFault) (doesWords : D → List ℕ) (v : ℕ) (fewDoes : D → Bool) (does-read : (q : Place) (p : ℕ) (d : D) → Shows bs p (doesWords d) → fewDoes d ≡ true → Ok d ≡ doesIn bs q p) where
+  module _ {D : Type 0} (does_in : List ℕ → Place → ℕ → Result D LinearFault) (does_words : D → List ℕ) (v : ℕ) (few_does : D → Bool) (does-read : (q : Place) (p : ℕ) (d : D) → Shows bs p (does_words d) → few_does d ≡ true → Ok d ≡ does_in bs q p) where
     abbrev kept : Summand D → Bool
-    kept s = few_guard s.when && fewDoes s.does && entered v s
+    kept s = few_guard s.when && few_does s.does && entered v s
 
-    summand_read : (q : Place) (p : ℕ) (s : Summand D) → Shows bs p (summand_words doesWords s) → kept s ≡ true → Ok s ≡ summand_in doesIn doesWords bs v q p
+    summand_read : (q : Place) (p : ℕ) (s : Summand D) → Shows bs p (summand_words does_words s) → kept s ≡ true → Ok s ≡ summand_in does_in does_words bs v q p
     summand_read q p s h ok =
         let gw = guard_words s.when in
-        let dw = doesWords s.does in
+        let dw = does_words s.does in
         let lw = leads_words s.leads in
-        let k1 = and_parts (few_guard s.when && fewDoes s.does) (entered v s) ok in
-        let k2 = and_parts (few_guard s.when) (fewDoes s.does) k1.0 in
+        let k1 = and_parts (few_guard s.when && few_does s.does) (entered v s) ok in
+        let k2 = and_parts (few_guard s.when) (few_does s.does) k1.0 in
         let back = shows_back bs gw (dw ++ lw) p h in
         then_ok _ (guard_read q p s.when (shows_front bs gw (dw ++ lw) p h) k2.0)
         (then_ok _ (does-read q (past p gw) s.does (shows_front bs dw lw (past p gw) back) k2.1)
         (then_ok _ (leads_read q v (past (past p gw) dw) s.leads (shows_back bs dw lw (past p gw) back) k1.1) refl))
 
-    pub summands_read : (g : Group) (us : List (Summand D)) (k p : ℕ) (ss : List (Summand D)) → Shows bs p (flat_map (summand_words doesWords) us) → all kept us ≡ true → Ok (ss ++ us, past p (flat_map (summand_words doesWords) us)) ≡ summands_from doesIn doesWords bs v g (length us) k p ss
+    pub summands_read : (g : Group) (us : List (Summand D)) (k p : ℕ) (ss : List (Summand D)) → Shows bs p (flat_map (summand_words does_words) us) → all kept us ≡ true → Ok (ss ++ us, past p (flat_map (summand_words does_words) us)) ≡ summands_from does_in does_words bs v g (length us) k p ss
     summands_read g [] k p ss h ok =
         let e : p + 2 * 0 ≡ p = omega arith in
         ap (λ xs. Ok (xs, p + 2 * 0)) (append-nil ss) ∙ ap (λ n. Ok (ss, n)) e
     summands_read g (s ∷ us) k p ss h ok =
-        let sw = summand_words doesWords s in
-        let tail = flat_map (summand_words doesWords) us in
+        let sw = summand_words does_words s in
+        let tail = flat_map (summand_words does_words) us in
         let parts = and_parts (kept s) (all kept us) ok in
-        let here = (and_parts (few_guard s.when && fewDoes s.does) (entered v s) parts.0).1 in
-        let end = end_is doesIn doesWords v p s here in
-        let q = summand_end doesIn doesWords v p s in
+        let here = (and_parts (few_guard s.when && few_does s.does) (entered v s) parts.0).1 in
+        let end = end_is does_in does_words v p s here in
+        let q = summand_end does_in does_words v p s in
         let back = shows_at bs tail (past p sw) q (sym end) (shows_back bs sw tail p h) in
         let rest = summands_read g us (k + 1) q (ss ++ (s ∷ [])) back parts.1 in
         let long = length-append sw tail in
@@ -131,9 +131,9 @@ module _ (bs : List ℕ) where
         then_ok _ (summand_read (at g k) p s (shows_front bs sw tail p h) parts.0)
         (ap (λ xs. Ok (xs, past p (sw ++ tail))) (sym (append_assoc ss (s ∷ []) us)) ∙ ap (λ n. Ok ((ss ++ (s ∷ [])) ++ us, n)) place ∙ rest)
 
-    pub section_read : (g : Group) (high p : ℕ) (us : List (Summand D)) → Shows bs p (section_words doesWords us) → all kept us ≡ true → leb (length us) high ≡ true → Ok (us, past p (section_words doesWords us)) ≡ section_in doesIn doesWords bs v g high p
+    pub section_read : (g : Group) (high p : ℕ) (us : List (Summand D)) → Shows bs p (section_words does_words us) → all kept us ≡ true → leb (length us) high ≡ true → Ok (us, past p (section_words does_words us)) ≡ section_in does_in does_words bs v g high p
     section_read g high p us (room, is, h) ok few =
-        let tail = flat_map (summand_words doesWords) us in
+        let tail = flat_map (summand_words does_words) us in
         let place : past p (length us ∷ tail) ≡ past (p + 2) tail = omega arith in
         then_ok _ (count_read (at g 0) 0 high p (length us) room is (from_zero high (length us) few))
         (ap (λ n. Ok (us, n)) place ∙ summands_read g us 0 (p + 2) [] h ok)

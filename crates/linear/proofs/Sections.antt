@@ -13,26 +13,26 @@ use Rattle.linear.specs.declared.fault.LinearFault.TheVariants.{Limit}
 pub exits : {X Y : Type 0} {r : Result X LinearFault} {s t : Result Y LinearFault} {x y : LinearFault} (f : X → Y) → r ≡ Err y → y ≡ x → s ≡ t → s ≡ Err x → mapped f r ≡ t
 exits f a b inv stop = ap (mapped f) a ∙ (ap Err b ∙ (sym stop ∙ inv))
 
-module _ {D : Type 0} (doesIn : List ℕ → Place → ℕ → Result D LinearFault) (doesWords : D → List ℕ) (bs : List ℕ) (v : ℕ) (g : Group) where
+module _ {D : Type 0} (does_in : List ℕ → Place → ℕ → Result D LinearFault) (does_words : D → List ℕ) (bs : List ℕ) (v : ℕ) (g : Group) where
   abbrev from : ℕ → ℕ → ℕ → List (Summand D) → Result (List (Summand D) × ℕ) LinearFault
-  from = summands_from doesIn doesWords bs v g
+  from = summands_from does_in does_words bs v g
 
-  from_next : (n k p : ℕ) (ss : List (Summand D)) → k < n → from (n - k) k p ss ≡ then (summand_in doesIn doesWords bs v (at g k) p) (λ s. from (n - (k + 1)) (k + 1) (summand_end doesIn doesWords v p s) (ss ++ (s ∷ [])))
+  from_next : (n k p : ℕ) (ss : List (Summand D)) → k < n → from (n - k) k p ss ≡ then (summand_in does_in does_words bs v (at g k) p) (λ s. from (n - (k + 1)) (k + 1) (summand_end does_in does_words v p s) (ss ++ (s ∷ [])))
   from_next n k p ss lt = let e : n - k ≡ suc (n - (k + 1)) = omega arith in ap (λ m. from m k p ss) e
 
   -- the table with one summand more stands for what was to be read
-  pub summands_more : {X : Type 0} (f : X → Summand D) (n k p q : ℕ) (xs : List X) (x : X) → k < n → k < length xs → Ok (f x) ≡ summand_in doesIn doesWords bs v (at g k) p → q ≡ summand_end doesIn doesWords v p (f x) → from (n - (k + 1)) (k + 1) q (map f (take (k + 1) (set xs k x))) ≡ from (n - k) k p (map f (take k xs))
+  pub summands_more : {X : Type 0} (f : X → Summand D) (n k p q : ℕ) (xs : List X) (x : X) → k < n → k < length xs → Ok (f x) ≡ summand_in does_in does_words bs v (at g k) p → q ≡ summand_end does_in does_words v p (f x) → from (n - (k + 1)) (k + 1) q (map f (take (k + 1) (set xs k x))) ≡ from (n - k) k p (map f (take k xs))
   summands_more f n k p q xs x lt long is end =
-      let rest : List (Summand D) → Summand D → Result (List (Summand D) × ℕ) LinearFault = λ ss s. from (n - (k + 1)) (k + 1) (summand_end doesIn doesWords v p s) (ss ++ (s ∷ [])) in
+      let rest : List (Summand D) → Summand D → Result (List (Summand D) × ℕ) LinearFault = λ ss s. from (n - (k + 1)) (k + 1) (summand_end does_in does_words v p s) (ss ++ (s ∷ [])) in
       ap (λ e. from (n - (k + 1)) (k + 1) e (map f (take (k + 1) (set xs k x)))) end
-      ∙ ap (from (n - (k + 1)) (k + 1) (summand_end doesIn doesWords v p (f x))) (ap (map f) (take_more_set xs k x long) ∙ map_push f (take k xs) x)
+      ∙ ap (from (n - (k + 1)) (k + 1) (summand_end does_in does_words v p (f x))) (ap (map f) (take_more_set xs k x long) ∙ map_push f (take k xs) x)
       ∙ ap (λ r. then r (rest (map f (take k xs)))) is
       ∙ sym (from_next n k p (map f (take k xs)) lt)
 
   -- a summand that is refused is the first fault
-  pub summands_stop : (n k p : ℕ) (ss : List (Summand D)) (x : LinearFault) → k < n → Err x ≡ summand_in doesIn doesWords bs v (at g k) p → from (n - k) k p ss ≡ Err x
+  pub summands_stop : (n k p : ℕ) (ss : List (Summand D)) (x : LinearFault) → k < n → Err x ≡ summand_in does_in does_words bs v (at g k) p → from (n - k) k p ss ≡ Err x
   summands_stop n k p ss x lt is =
-      from_next n k p ss lt ∙ sym (ap (λ r. then r (λ s. from (n - (k + 1)) (k + 1) (summand_end doesIn doesWords v p s) (ss ++ (s ∷ [])))) is)
+      from_next n k p ss lt ∙ sym (ap (λ r. then r (λ s. from (n - (k + 1)) (k + 1) (summand_end does_in does_words v p s) (ss ++ (s ∷ [])))) is)
 
 module _ (rule : ℕ → ℕ → Bool) (bs : List ℕ) where
   abbrev next : ℕ → ℕ → ℕ → List ℕ → ℕ → Result (List ℕ) LinearFault

@@ -34,57 +34,57 @@ all_weaker p q weaker (x ∷ xs) h =
 abbrev pub entered : {D : Type 0} → ℕ → Summand D → Bool
 entered v s = eqb (length s.leads.entries) v
 
-module _ {D : Type 0} (doesIn : List ℕ → Place → ℕ → Result D LinearFault) (doesWords : D → List ℕ) (v : ℕ) where
-  pub end_is : (p : ℕ) (s : Summand D) → entered v s ≡ true → summand_end doesIn doesWords v p s ≡ past p (summand_words doesWords s)
+module _ {D : Type 0} (does_in : List ℕ → Place → ℕ → Result D LinearFault) (does_words : D → List ℕ) (v : ℕ) where
+  pub end_is : (p : ℕ) (s : Summand D) → entered v s ≡ true → summand_end does_in does_words v p s ≡ past p (summand_words does_words s)
   end_is p s e =
       let long = eqb-true (length s.leads.entries) v e in
-      let one = length-append (guard_words s.when) (doesWords s.does ++ leads_words s.leads) in
-      let two = length-append (doesWords s.does) (leads_words s.leads) in
+      let one = length-append (guard_words s.when) (does_words s.does ++ leads_words s.leads) in
+      let two = length-append (does_words s.does) (leads_words s.leads) in
       let three = length_entries s.leads.entries in
       omega arith
 
-  module _ (bs : List ℕ) (fewDoes : D → Bool) (does-shown : (q : Place) (p : ℕ) (d : D) → doesIn bs q p ≡ Ok d → Shows bs p (doesWords d) × (fewDoes d ≡ true)) where
+  module _ (bs : List ℕ) (few_does : D → Bool) (does-shown : (q : Place) (p : ℕ) (d : D) → does_in bs q p ≡ Ok d → Shows bs p (does_words d) × (few_does d ≡ true)) where
     abbrev pub few : Summand D → Bool
-    few s = few_guard s.when && fewDoes s.does
+    few s = few_guard s.when && few_does s.does
 
-    summand_shown : (q : Place) (p : ℕ) (s : Summand D) → summand_in doesIn doesWords bs v q p ≡ Ok s → entered v s ≡ true → Shows bs p (summand_words doesWords s) × (few s ≡ true)
+    summand_shown : (q : Place) (p : ℕ) (s : Summand D) → summand_in does_in does_words bs v q p ≡ Ok s → entered v s ≡ true → Shows bs p (summand_words does_words s) × (few s ≡ true)
     summand_shown q p s h e =
         let i = then_inv (guard_in bs q p) _ s h in
         let g = i.0 in
-        let j = then_inv (doesIn bs q (past p (guard_words g))) _ s i.1.1 in
+        let j = then_inv (does_in bs q (past p (guard_words g))) _ s i.1.1 in
         let d = j.0 in
-        let k = then_inv (leads_in bs q v (past (past p (guard_words g)) (doesWords d))) _ s j.1.1 in
+        let k = then_inv (leads_in bs q v (past (past p (guard_words g)) (does_words d))) _ s j.1.1 in
         let t = k.0 in
         let made : Summand D = record { when = g; does = d; leads = t } in
         let same = ok_inv made s k.1.1 in
         let long : length t.entries ≡ v = ap (λ (y : Summand D). length y.leads.entries) same ∙ eqb-true (length s.leads.entries) v e in
         let a = guard_shown bs q p g i.1.0 in
         let b = does-shown q (past p (guard_words g)) d j.1.0 in
-        let c = leads_shown bs q v (past (past p (guard_words g)) (doesWords d)) t k.1.0 long in
-        let shows : Shows bs p (summand_words doesWords made) = shows_join bs (guard_words g) (doesWords d ++ leads_words t) p a.0 (shows_join bs (doesWords d) (leads_words t) (past p (guard_words g)) b.0 c) in
-        let P : Summand D → Type 0 = λ y. Shows bs p (summand_words doesWords y) × (few y ≡ true) in
-        subst P same (shows, and_from (few_guard g) (fewDoes d) a.1 b.1)
+        let c = leads_shown bs q v (past (past p (guard_words g)) (does_words d)) t k.1.0 long in
+        let shows : Shows bs p (summand_words does_words made) = shows_join bs (guard_words g) (does_words d ++ leads_words t) p a.0 (shows_join bs (does_words d) (leads_words t) (past p (guard_words g)) b.0 c) in
+        let P : Summand D → Type 0 = λ y. Shows bs p (summand_words does_words y) × (few y ≡ true) in
+        subst P same (shows, and_from (few_guard g) (few_does d) a.1 b.1)
 
-    pub summands_shown : (g : Group) (n k p : ℕ) (ss ts : List (Summand D)) (e : ℕ) → summands_from doesIn doesWords bs v g n k p ss ≡ Ok (ts, e) → all (entered v) ts ≡ true → (us : List (Summand D)) × ((ts ≡ ss ++ us) × ((length us ≡ n) × (Shows bs p (flat_map (summand_words doesWords) us) × ((e ≡ past p (flat_map (summand_words doesWords) us)) × (all few us ≡ true)))))
+    pub summands_shown : (g : Group) (n k p : ℕ) (ss ts : List (Summand D)) (e : ℕ) → summands_from does_in does_words bs v g n k p ss ≡ Ok (ts, e) → all (entered v) ts ≡ true → (us : List (Summand D)) × ((ts ≡ ss ++ us) × ((length us ≡ n) × (Shows bs p (flat_map (summand_words does_words) us) × ((e ≡ past p (flat_map (summand_words does_words) us)) × (all few us ≡ true)))))
     summands_shown g zero k p ss ts e h ok =
         let same = ok_inv (ss, p) (ts, e) h in
         ([], (ap (λ (z : List (Summand D) × ℕ). z.0) (sym same) ∙ sym (append-nil ss), (refl, (tt, (ap (λ (z : List (Summand D) × ℕ). z.1) (sym same) ∙ omega arith, refl)))))
     summands_shown g (suc n) k p ss ts e h ok =
-        let i = then_inv (summand_in doesIn doesWords bs v (at g k) p) _ (ts, e) h in
+        let i = then_inv (summand_in does_in does_words bs v (at g k) p) _ (ts, e) h in
         let s = i.0 in
-        let r = summands_shown g n (k + 1) (summand_end doesIn doesWords v p s) (ss ++ (s ∷ [])) ts e i.1.1 ok in
+        let r = summands_shown g n (k + 1) (summand_end does_in does_words v p s) (ss ++ (s ∷ [])) ts e i.1.1 ok in
         let us = r.0 in
         let whole : ts ≡ ss ++ (s ∷ us) = r.1.0 ∙ append_assoc ss (s ∷ []) us in
         let rest = all_back (entered v) ss (s ∷ us) (ap (all (entered v)) (sym whole) ∙ ok) in
         let here = (and_parts (entered v s) (all (entered v) us) rest).0 in
         let a = summand_shown (at g k) p s i.1.0 here in
         let end = end_is p s here in
-        let tail = flat_map (summand_words doesWords) us in
-        let long = length-append (summand_words doesWords s) tail in
+        let tail = flat_map (summand_words does_words) us in
+        let long = length-append (summand_words does_words s) tail in
         let last = r.1.1.1.1.0 in
-        (s ∷ us, (whole, (ap suc r.1.1.0, (shows_join bs (summand_words doesWords s) tail p a.0 (shows_at bs tail (summand_end doesIn doesWords v p s) (past p (summand_words doesWords s)) end r.1.1.1.0), (omega arith, and_from (few s) (all few us) a.1 r.1.1.1.1.1)))))
+        (s ∷ us, (whole, (ap suc r.1.1.0, (shows_join bs (summand_words does_words s) tail p a.0 (shows_at bs tail (summand_end does_in does_words v p s) (past p (summand_words does_words s)) end r.1.1.1.0), (omega arith, and_from (few s) (all few us) a.1 r.1.1.1.1.1)))))
 
-    pub section_shown : (g : Group) (high p : ℕ) (ts : List (Summand D)) (e : ℕ) → section_in doesIn doesWords bs v g high p ≡ Ok (ts, e) → all (entered v) ts ≡ true → Shows bs p (section_words doesWords ts) × ((e ≡ past p (section_words doesWords ts)) × ((all few ts ≡ true) × (leb (length ts) high ≡ true)))
+    pub section_shown : (g : Group) (high p : ℕ) (ts : List (Summand D)) (e : ℕ) → section_in does_in does_words bs v g high p ≡ Ok (ts, e) → all (entered v) ts ≡ true → Shows bs p (section_words does_words ts) × ((e ≡ past p (section_words does_words ts)) × ((all few ts ≡ true) × (leb (length ts) high ≡ true)))
     section_shown g high p ts e h ok =
         let i = then_inv (count_in bs (at g 0) 0 high p) _ (ts, e) h in
         let n = i.0 in
@@ -92,7 +92,7 @@ module _ {D : Type 0} (doesIn : List ℕ → Place → ℕ → Result D LinearFa
         let r = summands_shown g n 0 (p + 2) [] ts e i.1.1 ok in
         let us = r.0 in
         let same : us ≡ ts = sym r.1.0 in
-        let P : List (Summand D) → Type 0 = λ ys. Shows bs p (section_words doesWords ys) × ((e ≡ past p (section_words doesWords ys)) × ((all few ys ≡ true) × (leb (length ys) high ≡ true))) in
+        let P : List (Summand D) → Type 0 = λ ys. Shows bs p (section_words does_words ys) × ((e ≡ past p (section_words does_words ys)) × ((all few ys ≡ true) × (leb (length ys) high ≡ true))) in
         let last = r.1.1.1.1.0 in
         subst P same ((c.0, c.1 ∙ sym r.1.1.0, r.1.1.1.0), (omega arith, (r.1.1.1.1.1, ap (λ m. leb m high) r.1.1.0 ∙ (and_parts (leb 0 n) (leb n high) c.2).1)))
 

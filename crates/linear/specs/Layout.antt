@@ -32,10 +32,10 @@ abbrev pub leads_words : Leads → List ℕ
 leads_words t = t.counter ∷ flat_map entry_words t.entries
 
 abbrev pub summand_words : {D : Type 0} → (D → List ℕ) → Summand D → List ℕ
-summand_words doesWords s = guard_words s.when ++ (doesWords s.does ++ leads_words s.leads)
+summand_words does_words s = guard_words s.when ++ (does_words s.does ++ leads_words s.leads)
 
 abbrev pub section_words : {D : Type 0} → (D → List ℕ) → List (Summand D) → List ℕ
-section_words doesWords ss = length ss ∷ flat_map (summand_words doesWords) ss
+section_words does_words ss = length ss ∷ flat_map (summand_words does_words) ss
 
 abbrev pub head_words : Linear → List ℕ
 head_words e = counted e.sizes ++ (e.counters ∷ (e.first.counter ∷ e.first.values))

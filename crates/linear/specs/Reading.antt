@@ -102,15 +102,15 @@ leads_in bs q v p =
     (Ok (record { counter = c; entries = or_no_entries (entries_from bs (p + 2) v) }))
     (Err (Length q)))
 
-module _ {D : Type 0} (doesIn : List ℕ → Place → ℕ → Result D LinearFault) (doesWords : D → List ℕ) where
+module _ {D : Type 0} (does_in : List ℕ → Place → ℕ → Result D LinearFault) (does_words : D → List ℕ) where
   -- where the last part of a summand at p begins
   abbrev pub leads_place : ℕ → Guarded → D → ℕ
-  leads_place p g d = past (past p (guard_words g)) (doesWords d)
+  leads_place p g d = past (past p (guard_words g)) (does_words d)
 
   abbrev pub summand_in : List ℕ → ℕ → Place → ℕ → Result (Summand D) LinearFault
   summand_in bs v q p =
       then (guard_in bs q p) (λ g.
-      then (doesIn bs q (past p (guard_words g))) (λ d.
+      then (does_in bs q (past p (guard_words g))) (λ d.
       then (leads_in bs q v (leads_place p g d)) (λ t.
       Ok (record { when = g; does = d; leads = t }))))
 

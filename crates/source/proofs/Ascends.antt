@@ -1,6 +1,6 @@
 -- Derivations ascend.
 use Rattle.std.proofs.Common.{ℕ, zero, suc, ◌+◌, ◌≤◌, Bool, true, false, cond, eqb, List, [], ◌∷◌, ◌++◌, map, get_or, set, sum_by, arith}
-use Rattle.std.specs.List.{range_with_len, flat_map, AllByRecursion as All}
+use Rattle.std.specs.List.{range_with_len, flat_map, AllByRecursion}
 use Rattle.std.proofs.ByRecursion.{All-append}
 use Rattle.language.specs.Meanings.{Meaning}
 use Rattle.model.specs.Trees.{Tree, call, when, choice, sum, action, delay}
@@ -12,7 +12,7 @@ use Rattle.source.specs.Terms.{target}
 use Rattle.source.specs.Rules.{Rule, Implies, NChoiceL, NChoiceR, NSum, PSum, MStep, Derived, under, from, derived}
 use Rattle.source.specs.Order.{Before, Ascending, sides, values, later}
 
-all_before : (r : Rule) (D : List Rule) (zs : List Derived) → All (λ y. Before D y.by) zs → All (λ y. Before (r ∷ D) y.by) (map (under r) zs)
+all_before : (r : Rule) (D : List Rule) (zs : List Derived) → AllByRecursion (λ y. Before D y.by) zs → AllByRecursion (λ y. Before (r ∷ D) y.by) (map (under r) zs)
 all_before r D [] a = tt
 all_before r D (z ∷ zs) a = (later a.0, all_before r D zs a.1)
 
@@ -20,24 +20,24 @@ under_ascends : (r : Rule) (zs : List Derived) → Ascending zs → Ascending (m
 under_ascends r [] a = tt
 under_ascends r (z ∷ zs) a = (all_before r z.by zs a.0, under_ascends r zs a.1)
 
-append_ascends : (xs ys : List Derived) → Ascending xs → Ascending ys → All (λ x. All (λ y. Before x.by y.by) ys) xs → Ascending (xs ++ ys)
+append_ascends : (xs ys : List Derived) → Ascending xs → Ascending ys → AllByRecursion (λ x. AllByRecursion (λ y. Before x.by y.by) ys) xs → Ascending (xs ++ ys)
 append_ascends [] ys a b h = b
 append_ascends (x ∷ xs) ys a b h = (All-append _ xs ys a.0 h.0, append_ascends xs ys a.1 b h.1)
 
 -- all of one list before all of another, by their first rules
-all_all : (r s : Rule) → ((D E : List Rule) → Before (r ∷ D) (s ∷ E)) → (xs ys : List Derived) → All (λ x. All (λ y. Before x.by y.by) (map (under s) ys)) (map (under r) xs)
+all_all : (r s : Rule) → ((D E : List Rule) → Before (r ∷ D) (s ∷ E)) → (xs ys : List Derived) → AllByRecursion (λ x. AllByRecursion (λ y. Before x.by y.by) (map (under s) ys)) (map (under r) xs)
 all_all r s h [] ys = tt
 all_all r s h (x ∷ xs) ys = (one ys, all_all r s h xs ys)
   where
-    one : (zs : List Derived) → All (λ y. Before (r ∷ x.by) y.by) (map (under s) zs)
+    one : (zs : List Derived) → AllByRecursion (λ y. Before (r ∷ x.by) y.by) (map (under s) zs)
     one [] = tt
     one (z ∷ zs) = (h x.by z.by, one zs)
 
-all_joined : {X Y : Type 0} (P : Y → Type 0) (g : X → List Y) (xs : List X) → All (λ x. All P (g x)) xs → All P (flat_map g xs)
+all_joined : {X Y : Type 0} (P : Y → Type 0) (g : X → List Y) (xs : List X) → AllByRecursion (λ x. AllByRecursion P (g x)) xs → AllByRecursion P (flat_map g xs)
 all_joined P g [] a = tt
 all_joined P g (x ∷ xs) a = All-append P (g x) (flat_map g xs) a.0 (all_joined P g xs a.1)
 
-all_later : (P : ℕ → Type 0) (b a k : ℕ) → b ≤ a → ((d : ℕ) → b ≤ d → P d) → All P (range_with_len a k)
+all_later : (P : ℕ → Type 0) (b a k : ℕ) → b ≤ a → ((d : ℕ) → b ≤ d → P d) → AllByRecursion P (range_with_len a k)
 all_later P b a zero l h = tt
 all_later P b a (suc k) l h = (h a l, all_later P b (a + 1) k (omega arith) h)
 
@@ -47,12 +47,12 @@ sum_ascends f h a zero = tt
 sum_ascends f h a (suc k) =
     append_ascends (map (under (NSum a)) (f a)) (flat_map (λ d. map (under (NSum d)) (f d)) (range_with_len (a + 1) k)) (under_ascends (NSum a) (f a) (h a)) (sum_ascends f h (a + 1) k) (each_one (f a))
   where
-    each_one : (xs : List Derived) → All (λ x. All (λ y. Before x.by y.by) (flat_map (λ d. map (under (NSum d)) (f d)) (range_with_len (a + 1) k))) (map (under (NSum a)) xs)
+    each_one : (xs : List Derived) → AllByRecursion (λ x. AllByRecursion (λ y. Before x.by y.by) (flat_map (λ d. map (under (NSum d)) (f d)) (range_with_len (a + 1) k))) (map (under (NSum a)) xs)
     each_one [] = tt
     each_one (x ∷ xs) =
         (all_joined _ (λ d. map (under (NSum d)) (f d)) (range_with_len (a + 1) k) (all_later _ (a + 1) (a + 1) k (omega arith) (λ d l. after d l (f d))), each_one xs)
       where
-        after : (d : ℕ) → a + 1 ≤ d → (zs : List Derived) → All (λ y. Before (NSum a ∷ x.by) y.by) (map (under (NSum d)) zs)
+        after : (d : ℕ) → a + 1 ≤ d → (zs : List Derived) → AllByRecursion (λ y. Before (NSum a ∷ x.by) y.by) (map (under (NSum d)) zs)
         after d l [] = tt
         after d l (z ∷ zs) = (values (omega arith), after d l zs)
 

@@ -1,7 +1,7 @@
 -- The list of transitions has each derivation once.
 use Rattle.std.proofs.Common.{◌≡◌, ℕ, zero, suc, ◌+◌, ◌<◌, ◌≤◌, Bool, true, false, cond, ◌&&◌, eqb, List, [], ◌∷◌, ◌++◌, map, get_or, set, sum_by, sym, refl, ap, ◌∙◌, ap₂, ⊎_elim, add-zero, zero-add, arith}
 use mathlib.Core.Path.{fun_ext}
-use Rattle.std.specs.List.{range_with_len, flat_map, AllByRecursion as All}
+use Rattle.std.specs.List.{range_with_len, flat_map, AllByRecursion}
 use Rattle.std.proofs.lemmas.List.{map-append, map-id}
 use Rattle.std.proofs.ByRecursion.{All-weaker, All-map, All-append}
 use Rattle.std.proofs.lemmas.Bool.{eq-eqb, ne_eqb, eqb-false, cases_eq}
@@ -16,11 +16,11 @@ use Rattle.source.specs.Rules.{Rule, Implies, NChoiceL, NChoiceR, NSum, PSum, MS
 use Rattle.source.proofs.Totals.{total, sum_by_total, total_append, total_joined, total_map, total_zero}
 use Rattle.source.proofs.Mapped.{map_map, map_joined}
 
-pub all_counting : (P : ℕ → Type 0) (a k n : ℕ) → a + k ≡ n → ((d : ℕ) → d < n → P d) → All P (range_with_len a k)
+pub all_counting : (P : ℕ → Type 0) (a k n : ℕ) → a + k ≡ n → ((d : ℕ) → d < n → P d) → AllByRecursion P (range_with_len a k)
 all_counting P a zero n e h = tt
 all_counting P a (suc k) n e h = (h a (omega arith), all_counting P (a + 1) k n (omega arith) h)
 
-all_joined : {X Y : Type 0} (P : Y → Type 0) (g : X → List Y) (xs : List X) → All (λ x. All P (g x)) xs → All P (flat_map g xs)
+all_joined : {X Y : Type 0} (P : Y → Type 0) (g : X → List Y) (xs : List X) → AllByRecursion (λ x. AllByRecursion P (g x)) xs → AllByRecursion P (flat_map g xs)
 all_joined P g [] a = tt
 all_joined P g (x ∷ xs) a = All-append P (g x) (flat_map g xs) a.0 (all_joined P g xs a.1)
 
@@ -52,12 +52,12 @@ module _ (L : Meaning) (m : Model) where
   listed (action n a es x w t) ρ = sym (map_map _ (from PSum) (does L m.sizes (acts a es x w) (target L m (next t)) ρ) ∙ map-id _)
   listed (delay n r t) ρ = sym (map_map _ (from MStep) (does L m.sizes (waits r) (target L m (next t)) ρ) ∙ map-id _)
 
-  pub derive : (t : Tree) (ρ : List ℕ) → All (λ z. Derives L m t ρ z.by z.gives) (derived L m t ρ)
+  pub derive : (t : Tree) (ρ : List ℕ) → AllByRecursion (λ z. Derives L m t ρ z.by z.gives) (derived L m t ρ)
   derive (call n p es) ρ = tt
   derive (when n e t) ρ = go (derive t ρ) (holds L e ρ) refl
     where
-      go : All (λ z. Derives L m t ρ z.by z.gives) (derived L m t ρ) → (b : Bool) → holds L e ρ ≡ b
-          → All (λ z. Derives L m (when n e t) ρ z.by z.gives) (cond b (map (under Implies) (derived L m t ρ)) [])
+      go : AllByRecursion (λ z. Derives L m t ρ z.by z.gives) (derived L m t ρ) → (b : Bool) → holds L e ρ ≡ b
+          → AllByRecursion (λ z. Derives L m (when n e t) ρ z.by z.gives) (cond b (map (under Implies) (derived L m t ρ)) [])
       go ih false h = tt
       go ih true h = All-map _ (under Implies) (derived L m t ρ) (All-weaker _ _ (λ z d. implies h d) (derived L m t ρ) ih)
   derive (choice n l r) ρ =
@@ -71,12 +71,12 @@ module _ (L : Meaning) (m : Model) where
   derive (action n a es x w t) ρ = go (eqb (sum_by (λ o. o.weight) (outcomes L m.sizes x w (target L m (next t)) ρ)) 0) refl
     where
       go : (b : Bool) → eqb (sum_by (λ o. o.weight) (outcomes L m.sizes x w (target L m (next t)) ρ)) 0 ≡ b
-          → All (λ z. Derives L m (action n a es x w t) ρ z.by z.gives) (map (from PSum) (cond b [] (move a (map (λ e. L.value e ρ) es) (outcomes L m.sizes x w (target L m (next t)) ρ) ∷ [])))
+          → AllByRecursion (λ z. Derives L m (action n a es x w t) ρ z.by z.gives) (map (from PSum) (cond b [] (move a (map (λ e. L.value e ρ) es) (outcomes L m.sizes x w (target L m (next t)) ρ) ∷ [])))
       go true h = tt
       go false h = (psum (let ne = eqb-false _ _ h in omega (arith, ne)), tt)
   derive (delay n r t) ρ = go (eqb (L.value r ρ) 0) refl
     where
-      go : (b : Bool) → eqb (L.value r ρ) 0 ≡ b → All (λ z. Derives L m (delay n r t) ρ z.by z.gives) (map (from MStep) (cond b [] (wait (L.value r ρ) (target L m (next t) ρ) ∷ [])))
+      go : (b : Bool) → eqb (L.value r ρ) 0 ≡ b → AllByRecursion (λ z. Derives L m (delay n r t) ρ z.by z.gives) (map (from MStep) (cond b [] (wait (L.value r ρ) (target L m (next t) ρ) ∷ [])))
       go true h = tt
       go false h = (mstep (let ne = eqb-false _ _ h in omega (arith, ne)), tt)
 

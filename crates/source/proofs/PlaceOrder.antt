@@ -1,7 +1,7 @@
 -- A place's program counter is one more than the number of places with lower nodes.
 use Rattle.std.proofs.Common.{◌≡◌, ℕ, zero, suc, ◌+◌, ◌<◌, ◌≤◌, Bool, true, false, cond, not, eqb, ltb, List, [], ◌∷◌, ◌++◌, length, filter, sym, refl, ap, ◌∙◌, subst, ap₂, ⊎_elim, arith}
 use mathlib.Core.Path.{fun_ext}
-use Rattle.std.specs.List.{range_with_len, flat_map, prefix_len, AllByRecursion as All}
+use Rattle.std.specs.List.{range_with_len, flat_map, prefix_len, AllByRecursion}
 use Rattle.std.proofs.ByRecursion.{All-weaker, kept_by_passes}
 use Rattle.std.proofs.lemmas.Bool.{ne_eqb, eqb-true, cases_eq}
 use Rattle.model.specs.Trees.{Tree}
@@ -14,7 +14,7 @@ module _ {X : Type 0} (key : X → ℕ) (n : ℕ) where
   other x = not (eqb (key x) n)
 
   -- all of the front passes
-  through : (xs ys : List X) → All (λ x. other x ≡ true) xs → prefix_len other (xs ++ ys) ≡ length xs + prefix_len other ys
+  through : (xs ys : List X) → AllByRecursion (λ x. other x ≡ true) xs → prefix_len other (xs ++ ys) ≡ length xs + prefix_len other ys
   through [] ys a = omega arith
   through (x ∷ xs) ys a = let ih = through xs ys a.1 in rw a.0 (omega arith)
 

@@ -1,7 +1,7 @@
 -- Sums over lists.
 use Rattle.std.proofs.Common.{◌≡◌, ℕ, zero, suc, ◌+◌, ◌<◌, ◌≤◌, Bool, true, false, cond, not, eqb, List, [], ◌∷◌, ◌++◌, map, sum_by, filter, sym, refl, ap, ◌∙◌, arith}
 use mathlib.Core.Path.{fun_ext}
-use Rattle.std.specs.List.{range_with_len, flat_map, AllByRecursion as All}
+use Rattle.std.specs.List.{range_with_len, flat_map, AllByRecursion}
 use Rattle.std.proofs.lemmas.List.Sums.{sum_by-cons}
 use Rattle.std.proofs.lemmas.Bool.{eq-eqb, ne_eqb}
 use Rattle.source.specs.Places.{in_order}
@@ -38,7 +38,7 @@ pub total_swap : {X Y : Type 0} (h : X → Y → ℕ) (xs : List X) (ys : List Y
 total_swap h [] ys = sym (total_zero ys)
 total_swap h (x ∷ xs) ys = ap (λ n. total (h x) ys + n) (total_swap h xs ys) ∙ sym (total_plus (h x) (λ y. total (λ z. h z y) xs) ys)
 
-pub total_all : {X : Type 0} (f g : X → ℕ) (xs : List X) → All (λ x. f x ≡ g x) xs → total f xs ≡ total g xs
+pub total_all : {X : Type 0} (f g : X → ℕ) (xs : List X) → AllByRecursion (λ x. f x ≡ g x) xs → total f xs ≡ total g xs
 total_all f g [] a = refl
 total_all f g (x ∷ xs) a = let ih = total_all f g xs a.1 in cc a.0
 
@@ -76,13 +76,13 @@ pub once : (v j a k : ℕ) → a ≤ j → j < a + k → total (λ n. cond (eqb 
 once v j a zero l h = absurd (omega arith)
 once v j a (suc k) l h = grind (arith, nowhere, once v j (a + 1) k, eq-eqb, ne_eqb)
 
-pub total_in_order : {X : Type 0} (f : X → ℕ) (key : X → ℕ) (k : ℕ) (xs : List X) → All (λ x. key x < k) xs → total f (in_order key k xs) ≡ total f xs
+pub total_in_order : {X : Type 0} (f : X → ℕ) (key : X → ℕ) (k : ℕ) (xs : List X) → AllByRecursion (λ x. key x < k) xs → total f (in_order key k xs) ≡ total f xs
 total_in_order f key k xs a =
     total_joined f (λ n. filter (λ x. eqb (key x) n) xs) (range_with_len 0 k)
     ∙ ap (λ h. total h (range_with_len 0 k)) (fun_ext (λ n. total_kept f (λ x. eqb (key x) n) xs))
     ∙ total_swap (λ n x. cond (eqb (key x) n) (f x) 0) (range_with_len 0 k) xs
     ∙ total_all _ f xs (each xs a)
   where
-    each : (ys : List _) → All (λ x. key x < k) ys → All (λ x. total (λ n. cond (eqb (key x) n) (f x) 0) (range_with_len 0 k) ≡ f x) ys
+    each : (ys : List _) → AllByRecursion (λ x. key x < k) ys → AllByRecursion (λ x. total (λ n. cond (eqb (key x) n) (f x) 0) (range_with_len 0 k) ≡ f x) ys
     each [] b = tt
     each (y ∷ ys) b = (once (f y) (key y) 0 k (omega arith) (omega (arith, b.0)), each ys b.1)

@@ -1,6 +1,6 @@
 -- The order of derivations: left before right, a sum's values upwards.
 use Rattle.std.specs.Prelude.{ℕ, ◌<◌, List, [], ◌∷◌}
-use Rattle.std.specs.List.{AllByRecursion as All}
+use Rattle.std.specs.List.{AllByRecursion}
 use Rattle.source.specs.Rules.{Rule, NChoiceL, NChoiceR, NSum, Derived}
 
 pub data Before : List Rule → List Rule → Type 0 where
@@ -11,4 +11,4 @@ pub data Before : List Rule → List Rule → Type 0 where
 -- each derivation is before all that follow
 abbrev pub Ascending : List Derived → Type 0
 Ascending [] = Unit {0}
-Ascending (z ∷ zs) = All (λ y. Before z.by y.by) zs × Ascending zs
+Ascending (z ∷ zs) = AllByRecursion (λ y. Before z.by y.by) zs × Ascending zs

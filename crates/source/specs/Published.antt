@@ -1,7 +1,7 @@
 -- The published rules in their own words: what a term is, where a transition lands, one constructor for each rule.
 -- Nothing here uses the functions that list the transitions.
 use Rattle.std.specs.Prelude.{◌≡◌, ℕ, ◌+◌, ◌-◌, ◌<◌, ◌≤◌, true, false, cond, List, [], ◌∷◌, map, length, Some, sum_by, ◌≢◌, slice_index, slice_set}
-use Rattle.std.specs.List.{slice_get, AllZip, AllByRecursion as All}
+use Rattle.std.specs.List.{slice_get, AllZip, AllByRecursion}
 use Rattle.language.specs.Meanings.{Meaning}
 use Rattle.model.specs.Trees.{Tree, call, when, choice, sum, action, delay}
 use Rattle.valuation.specs.Transitions.{Outcome, Transition, move, wait}
@@ -59,7 +59,7 @@ pub data Derivation (L : Meaning) (m : Model) : Tree → List ℕ → List Rule 
 pub record Exactly (L : Meaning) (m : Model) (t : Tree) (ρ : List ℕ) : Type 0 where
   pub list : List Derived
   pub listed : transitions L m t ρ ≡ map (λ z. z.gives) list
-  pub derive : All (λ z. Derivation L m t ρ z.by z.gives) list
+  pub derive : AllByRecursion (λ z. Derivation L m t ρ z.by z.gives) list
   pub once : (D : List Rule) (s : Transition Term) → Derivation L m t ρ D s → (f : Transition Term → ℕ) → sum_by (λ z. cond (same_rules D z.by) (f z.gives) 0) list ≡ f s
   pub ascends : Ascending list
 

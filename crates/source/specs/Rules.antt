@@ -3,7 +3,7 @@
 --     derived L m t ρ  the derivations of a tree under a valuation
 --     Derives ..       the same as a relation over the list's functions, a step towards the published one
 use Rattle.std.specs.Prelude.{◌≡◌, ℕ, ◌+◌, ◌<◌, Bool, true, false, cond, ◌&&◌, List, [], ◌∷◌, ◌++◌, map, sum_by, nat_eq, slice_index, slice_set}
-use Rattle.std.specs.List.{flat_map, AllByRecursion as All}
+use Rattle.std.specs.List.{flat_map, AllByRecursion}
 use Rattle.language.specs.Meanings.{Meaning}
 use Rattle.model.specs.Trees.{Tree, call, when, choice, sum, action, delay}
 use Rattle.valuation.specs.Valuations.{values_of, holds}
@@ -72,7 +72,7 @@ module _ (L : Meaning) (m : Model) where
   -- and each derivation stands there once: whatever the steps are weighed with, the entries with that derivation weigh as its step.
   pub record Enumerated (t : Tree) (ρ : List ℕ) : Type 0 where
     pub listed : transitions L m t ρ ≡ map (λ z. z.gives) (derived t ρ)
-    pub derive : All (λ z. Derives L m t ρ z.by z.gives) (derived t ρ)
+    pub derive : AllByRecursion (λ z. Derives L m t ρ z.by z.gives) (derived t ρ)
     pub once : (D : List Rule) (s : Transition Term) → Derives L m t ρ D s → (f : Transition Term → ℕ) → sum_by (λ z. cond (same_rules D z.by) (f z.gives) 0) (derived t ρ) ≡ f s
 
 abbrev pub Enumerates : Type 0

@@ -3,7 +3,7 @@
 --     Fits L m         so it is in the body of each process, under its parameters
 --     Sound m          what every accepted model has
 use Rattle.std.specs.Prelude.{◌≡◌, ℕ, suc, ◌-◌, ◌<◌, ◌≤◌, Bool, true, ◌||◌, length, ◌==◌, slice_index}
-use Rattle.std.specs.List.{AllByRecursion as All}
+use Rattle.std.specs.List.{AllByRecursion}
 use Rattle.language.specs.Meanings.{Meaning}
 use Rattle.model.specs.Trees.{Tree, call, when, choice, sum, action, delay}
 use Rattle.source.specs.Models.{Model, node, process, param}
@@ -20,15 +20,15 @@ module _ (L : Meaning) where
   Within S e = (e < L.count) × ((x : ℕ) → L.names e x ≡ true → S x ≡ true)
 
   abbrev pub InScope : Scope → Tree → Type 0
-  InScope S (call n p es) = All (Within S) es
+  InScope S (call n p es) = AllByRecursion (Within S) es
   InScope S (when n e t) = Within S e × InScope S t
   InScope S (choice n l r) = InScope S l × InScope S r
   InScope S (sum n x t) = InScope (adding x S) t
-  InScope S (action n a es x w t) = All (Within S) es × Within (adding x S) w × InScope (adding x S) t
+  InScope S (action n a es x w t) = AllByRecursion (Within S) es × Within (adding x S) w × InScope (adding x S) t
   InScope S (delay n r t) = Within S r × InScope S t
 
   abbrev pub Fits : Model → Type 0
-  Fits m = All (λ q. InScope (param q) q.body) m.processes
+  Fits m = AllByRecursion (λ q. InScope (param q) q.body) m.processes
 
 -- Each variable is bound once: by the node that `owner` gives, plus 1, or, where that is 0, as a parameter. Nodes from k on, children higher.
 abbrev pub Owned : (ℕ → ℕ) → ℕ → Tree → Type 0
@@ -62,10 +62,10 @@ Numbered m tree (delay n r t) = Here m tree (delay n r t) × Numbered m tree t
 
 pub record Sound (m : Model) : Type 0 where
   pub tree : ℕ → Tree
-  pub numbered : All (λ q. Numbered m tree q.body) m.processes
-  pub called : All (λ q. Calls m q.body) m.processes
+  pub numbered : AllByRecursion (λ q. Numbered m tree q.body) m.processes
+  pub called : AllByRecursion (λ q. Calls m q.body) m.processes
   pub starts : m.begins < length m.processes
   pub sizes : (x : ℕ) → x < length m.sizes → 0 < slice_index m.sizes x
   pub values : (x : ℕ) → x < length m.sizes → param (process m m.begins) x ≡ true → slice_index m.values (x - (process m m.begins).first) < slice_index m.sizes x
   pub owner : ℕ → ℕ
-  pub owned : All (λ q. ((x : ℕ) → param q x ≡ true → owner x ≡ 0) × Owned owner 0 q.body) m.processes
+  pub owned : AllByRecursion (λ q. ((x : ℕ) → param q x ≡ true → owner x ≡ 0) × Owned owner 0 q.body) m.processes

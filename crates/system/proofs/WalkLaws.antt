@@ -1,7 +1,7 @@
 -- Laws of walks: whatever is reached by few steps, some calls lead to; refused calls change nothing; back undoes.
 use Rattle.std.proofs.Common.{◌≡◌, ℕ, zero, suc, ◌<◌, Bool, true, false, eqb, ltb, List, [], ◌∷◌, ◌++◌, length, Some, Ok, Err, Result, refl, ap, ◌∙◌, subst, arith}
 use Rattle.std.proofs.lemmas.Bool.{lt-ltb, ne_eqb}
-use Rattle.std.specs.List.{slice_get, AllByRecursion as All}
+use Rattle.std.specs.List.{slice_get, AllByRecursion}
 use Rattle.system.specs.Systems.{Meaning, Move, Outcome, Delay, Sound, SoundDelays, FairMove, FairDelay}
 use Rattle.system.specs.Questions.{label_of, rate}
 use Rattle.system.specs.Walks.{most_steps, Passed, Course, Next, acting, waiting, pushed, step_answer, step_course, back_answer, back_course, call_answer, call_course, run, fresh, played, trail}
@@ -13,7 +13,7 @@ use Rattle.system.specs.declared.answers.Step.TheVariants.{Acted, Waited}
 use Rattle.system.specs.declared.refusal.Refusal.{Refusal}
 use Rattle.system.proofs.Passes.{length_trail}
 
-pub all_nth : {X : Type 0} (P : X → Type 0) (xs : List X) (k : ℕ) (x : X) → slice_get xs k ≡ Some x → All P xs → P x
+pub all_nth : {X : Type 0} (P : X → Type 0) (xs : List X) (k : ℕ) (x : X) → slice_get xs k ≡ Some x → AllByRecursion P xs → P x
 all_nth P [] k x e a = absurd (let z : ◌≡◌ {A = ℕ} 0 1 = cc in omega arith)
 all_nth P (y ∷ xs) zero x e a = let q : y ≡ x = cc in subst P q a.0
 all_nth P (y ∷ xs) (suc k) x e a = all_nth P xs k x e a.1

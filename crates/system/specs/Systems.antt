@@ -1,7 +1,7 @@
 -- What a system is: its states are lists of words, and each has a list of moves and a list of delays.
 -- Sound, SoundDelays: what every system owes.
 use Rattle.std.specs.Prelude.{◌≡◌, ℕ, ◌+◌, ◌^◌, ◌<◌, ◌≤◌, Bool, true, List, [], ◌∷◌, length}
-use Rattle.std.specs.List.{AllByRecursion as All}
+use Rattle.std.specs.List.{AllByRecursion}
 
 -- no count of moves, delays or outcomes passes it, and no total weight
 abbrev pub ceiling : ℕ
@@ -33,7 +33,7 @@ pub record FairMove (member : List ℕ → Bool) (v : Move) : Type 0 where
   pub outcomes_few : length v.outcomes ≤ ceiling
   pub positive : 0 < total v.outcomes
   pub total_low : total v.outcomes ≤ ceiling
-  pub closed : All (λ (o : Outcome). member o.target ≡ true) v.outcomes
+  pub closed : AllByRecursion (λ (o : Outcome). member o.target ≡ true) v.outcomes
 
 -- the lists of moves that matter are those of the states in the set
 pub record Meaning : Type 0 where
@@ -48,7 +48,7 @@ pub record Sound (m : Meaning) : Type 0 where
   pub sized : (x : List ℕ) → m.member x ≡ true → length x ≡ m.width
   pub starts : m.member m.start ≡ true
   pub few : (x : List ℕ) → m.member x ≡ true → length (m.moves x) ≤ ceiling
-  pub fair : (x : List ℕ) → m.member x ≡ true → All (FairMove m.member) (m.moves x)
+  pub fair : (x : List ℕ) → m.member x ≡ true → AllByRecursion (FairMove m.member) (m.moves x)
 
 pub record FairDelay (member : List ℕ → Bool) (d : Delay) : Type 0 where
   pub positive : 0 < d.rate
@@ -56,4 +56,4 @@ pub record FairDelay (member : List ℕ → Bool) (d : Delay) : Type 0 where
 
 pub record SoundDelays (m : Meaning) (delays : List ℕ → List Delay) : Type 0 where
   pub few : (x : List ℕ) → m.member x ≡ true → length (delays x) ≤ ceiling
-  pub fair : (x : List ℕ) → m.member x ≡ true → All (FairDelay m.member) (delays x)
+  pub fair : (x : List ℕ) → m.member x ≡ true → AllByRecursion (FairDelay m.member) (delays x)

@@ -1,7 +1,7 @@
 -- A side that keeps the free variables has the transitions of the model.
 use Rattle.std.proofs.Common.{◌≡◌, ℕ, ◌<◌, Bool, cond, List, [], ◌++◌, length, set, refl, ap, ap₂}
 use mathlib.Core.Path.{fun_ext}
-use Rattle.std.specs.List.{flat_map, AllByRecursion as All}
+use Rattle.std.specs.List.{flat_map, AllByRecursion}
 use Rattle.std.proofs.ByRecursion.{All-get_or}
 use Rattle.language.specs.Meanings.{Meaning}
 use Rattle.model.specs.Trees.{Tree, call, when, choice, sum, action, delay}
@@ -14,7 +14,7 @@ use Rattle.source.specs.Terms.{term, target, transitions}
 use Rattle.term_side.specs.Meanings.{kept_term, kept_target, kept_transitions}
 
 -- the trees of a model's bodies, and of what stands below them, are those of their nodes
-module _ (L : Meaning) (m : Model) (tree : ℕ → Tree) (bodies : All (λ q. Numbered m tree q.body) m.processes) where
+module _ (L : Meaning) (m : Model) (tree : ℕ → Tree) (bodies : AllByRecursion (λ q. Numbered m tree q.body) m.processes) where
   abbrev freely : ℕ → ℕ → Bool
   freely n x = free L (tree n) x
 
