@@ -61,7 +61,7 @@ fn put(target: &mut [u16], fast: u16, slow: u16)
 impl System for Pools {
     ghost meaning = { λ s. pools s.fast s.slow };
 
-    ghost sound = { first_of (Prim.search rules, Prim.grind (arith, Self.row.coded.inj)) };
+    ghost sound = { Prim.search rules };
 
     fn width(&self) -> usize {
         WIDTH
@@ -138,7 +138,7 @@ impl System for Pools {
 impl Markov for Pools {
     ghost delays = { λ _. pools_delays };
 
-    ghost waits = { first_of (Prim.search rules, Prim.grind (arith, Self.row.coded.inj)) };
+    ghost waits = { Prim.search rules };
 
     fn delay_count(&self, state: &[u16]) -> Result<u64, Refusal> {
         if self.is_state(state) {

@@ -3,7 +3,7 @@
 --     uses_beyond n v        the node v uses an expression from n up
 --     strays L x here v     the node v uses an expression that names x, which is not in scope; `here` says whether x is in scope at v.
 --                           An action's own variable is in scope for its weight, but not for its arguments
-use Rattle.std.specs.Prelude.{ℕ, Bool, false, not, ◌&&◌, ◌||◌, leb, List, [], ◌∷◌, ◌==◌, nat_le}
+use Rattle.std.specs.Prelude.{ℕ, Bool, false, not, ◌&&◌, ◌||◌, nat_le, List, [], ◌∷◌, ◌==◌}
 use Rattle.language.specs.Meanings.{Meaning}
 use Rattle.model.specs.Nodes.{NodeValue, call, condition, choice, sum, action, delay}
 use Rattle.source.specs.Nodes.{words_in}
@@ -13,11 +13,11 @@ any_of p [] = false
 any_of p (e ∷ es) = p e || any_of p es
 
 abbrev pub uses_beyond : ℕ → NodeValue → Bool
-uses_beyond n (call p bs) = any_of (leb n) (words_in bs)
+uses_beyond n (call p bs) = any_of (nat_le n) (words_in bs)
 uses_beyond n (condition e c) = nat_le n e
 uses_beyond n (choice l r) = false
 uses_beyond n (sum v c) = false
-uses_beyond n (action a bs v w c) = any_of (leb n) (words_in bs) || nat_le n w
+uses_beyond n (action a bs v w c) = any_of (nat_le n) (words_in bs) || nat_le n w
 uses_beyond n (delay r c) = nat_le n r
 
 abbrev pub strays : Meaning → ℕ → Bool → NodeValue → Bool

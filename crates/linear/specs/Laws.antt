@@ -4,7 +4,7 @@
 --     small E      the sizes of each summand's sum variables multiply to at most 65,536
 --     lawful E     all of these
 --     IsFile bs    the bytes are the file of a lawful equation
-use Rattle.std.specs.Prelude.{◌≡◌, ℕ, ◌+◌, ◌*◌, Bool, true, false, not, ◌&&◌, ◌||◌, ltb, List, [], ◌∷◌, length, ◌==◌, nat_le, nat_lt, slice_index_or}
+use Rattle.std.specs.Prelude.{◌≡◌, ℕ, ◌+◌, ◌*◌, Bool, true, false, not, ◌&&◌, ◌||◌, nat_lt, List, [], ◌∷◌, length, ◌==◌, nat_le, slice_index_or}
 use Rattle.linear.specs.Equations.{Guarded, Acts, Leads, Summand, Linear}
 use Rattle.linear.specs.Layout.{file_of}
 
@@ -52,7 +52,7 @@ limits e =
 
 -- of v variables and c program counters
 abbrev pub named_guard : ℕ → ℕ → Guarded → Bool
-named_guard v c g = within 1 c g.counter && all (λ x. ltb x v) g.sums && distinct g.sums
+named_guard v c g = within 1 c g.counter && all (λ x. nat_lt x v) g.sums && distinct g.sums
 
 abbrev pub named_leads : ℕ → ℕ → Leads → Bool
 named_leads v c t = within 1 c t.counter && length t.entries == v

@@ -1,10 +1,10 @@
 // Looks at the product's files, one on standard input: `mapa data formula|table`, `mapa model`.
 #![tactic(auto)]
 
-use anyhow::anyhow;
 use report::{DataLanguage, Verb, run};
 use std::env;
 use std::io::{Read, Write};
+use std::process::ExitCode;
 
 const USAGE: &str = "usage: mapa data formula|table < FILE, or mapa model < FILE";
 
@@ -22,21 +22,21 @@ fn verb_of(words: &[String]) -> Option<Verb> {
     }
 }
 
-fn main(rt: HostRuntime) -> anyhow::Result<()> {
+fn main(rt: HostRuntime) -> anyhow::Result<ExitCode> {
     let mut words = Vec::new(rt.alloc());
     for word in env::args(&rt)? {
         words.push(word)?;
     }
     let Some(verb) = verb_of(words.as_slice()) else {
         rt.eprintln(USAGE)?;
-        return Err(anyhow!("usage"));
+        return Ok(ExitCode::FAILURE);
     };
     let mut input = Vec::new(rt.alloc());
     rt.stdin().read_to_end(&mut input)?;
     let report = run(verb, input.as_slice(), rt.alloc())?;
     rt.stdout().write_all(report.text.as_bytes())?;
     if report.refused {
-        return Err(anyhow!("refused"));
+        return Ok(ExitCode::FAILURE);
     }
-    Ok(())
+    Ok(ExitCode::SUCCESS)
 }

@@ -2,7 +2,7 @@
 --     Fits g n s      what s, as node n, names is there
 --     owner_of g v     one more than the node that binds v; 0 where a parameter does
 --     Made g          all of it
-use Rattle.std.specs.Prelude.{◌≡◌, ℕ, suc, ◌+◌, ◌<◌, ◌≤◌, Bool, false, cond, List, [], ◌∷◌, length, get_or, Some, ◌==◌, slice_index, slice_index_or}
+use Rattle.std.specs.Prelude.{◌≡◌, ℕ, suc, ◌+◌, ◌<◌, ◌≤◌, Bool, false, cond, List, [], ◌∷◌, length, slice_index, slice_index_or, Some, ◌==◌}
 use Rattle.std.specs.List.{slice_get}
 use Rattle.model_file.specs.Limits.{Between, Run}
 use Rattle.model_rules.specs.declared.shape.Shape.{Shape}
@@ -59,7 +59,7 @@ module _ (g : Flat) where
     pub start : g.start < length g.processes
     pub start_values : length g.values ≡ (process_in g.start).number
     pub values : (k : ℕ) → k < length g.values → slice_index g.values k < slice_index g.sizes ((process_in g.start).first + k)
-    pub internal : get_or g.arities 0 0 ≡ 0
+    pub internal : slice_index g.arities 0 ≡ 0
     pub arities : (a : ℕ) → a < length g.arities → slice_index g.arities a ≤ 4
     pub few : length g.nodes ≤ 256
     pub nodes : (n : ℕ) (s : Shape) → slice_get g.nodes n ≡ Some s → Fits n s

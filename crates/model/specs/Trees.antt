@@ -1,7 +1,7 @@
 -- The trees of a flat model: each node with its children in place of their numbers.
 --     grown g i ns   the trees of the nodes ns, the first of which is node i
 --     tree_of g n     the tree of node n
-use Rattle.std.specs.Prelude.{ℕ, suc, ◌-◌, List, [], ◌∷◌, get_or, slice_index_or}
+use Rattle.std.specs.Prelude.{ℕ, suc, ◌-◌, List, [], ◌∷◌, slice_index_or}
 use Rattle.model_rules.specs.declared.shape.Shape.{Shape}
 use Rattle.model_rules.specs.declared.shape.Shape.TheVariants as shape
 use Rattle.model.specs.Flat.{Flat}
@@ -29,7 +29,7 @@ module _ (g : Flat) where
   -- a child's number is higher than its parent's
   abbrev pub grown : ℕ → List Shape → List Tree
   grown i [] = []
-  grown i (k ∷ ks) = let ts = grown (suc i) ks in planted i k (λ c. get_or ts (c - suc i) (call 0 0 [])) ∷ ts
+  grown i (k ∷ ks) = let ts = grown (suc i) ks in planted i k (λ c. slice_index_or ts (c - suc i) (call 0 0 [])) ∷ ts
 
   abbrev pub tree_of : ℕ → Tree
   tree_of n = slice_index_or (grown 0 g.nodes) n (call 0 0 [])

@@ -1,5 +1,5 @@
 // Free variables: at each node, from the highest down, since children are higher.
-ghost use Rattle.std.specs.Prelude.{◌≡◌, ℕ, true, false, get_or, slice_index_or};
+ghost use Rattle.std.specs.Prelude.{◌≡◌, ℕ, true, false, slice_index_or};
 ghost use Rattle.model.specs.Flat.{flat};
 ghost use Rattle.model.specs.Nodes.{node_in};
 ghost use Rattle.model.specs.Trees.{tree_of};
@@ -17,7 +17,7 @@ fn named_at<L: Language>(
     node: u16,
     named: &[bool],
 ) -> bool
-    ensures answer { result ≡ named_by (L.Language.meaning language.now) variable (λ c. get_or named.now c false) (node_in (flat model.now.bytes.now) node) }
+    ensures answer { result ≡ named_by (L.Language.meaning language.now) variable (λ c. slice_index_or named.now c false) (node_in (flat model.now.bytes.now) node) }
 {
     match model.node(node) {
         Some(here) => names_here(language, here, variable) | child_has(named, here),
@@ -26,7 +26,7 @@ fn named_at<L: Language>(
 }
 
 fn bound_at(model: &Model, variable: u16, node: u16, bound: &[bool]) -> bool
-    ensures answer { result ≡ bound_by variable (λ c. get_or bound.now c false) (node_in (flat model.now.bytes.now) node) }
+    ensures answer { result ≡ bound_by variable (λ c. slice_index_or bound.now c false) (node_in (flat model.now.bytes.now) node) }
 {
     match model.node(node) {
         Some(here) => binds_here(here, variable) | child_has(bound, here),

@@ -1,5 +1,5 @@
 // What a node itself names and binds, and what its children do.
-ghost use Rattle.std.specs.Prelude.{◌≡◌, false, get_or, slice_index_or};
+ghost use Rattle.std.specs.Prelude.{◌≡◌, false, slice_index_or};
 ghost use Rattle.model.specs.Nodes.{node_value};
 ghost use Rattle.source.specs.Free.{named_in};
 ghost use Rattle.source.specs.Nodes.{words_in, own_names, own_binds, any_child};
@@ -85,7 +85,7 @@ fn flag(flags: &[bool], node: u16) -> bool
 
 // Whether a child has a flag.
 pub(crate) fn child_has(flags: &[bool], node: Node<'_>) -> bool
-    ensures answer { result ≡ any_child (λ c. get_or flags.now c false) (node_value node.entry) }
+    ensures answer { result ≡ any_child (λ c. slice_index_or flags.now c false) (node_value node.entry) }
 {
     match node {
         Node::Call {

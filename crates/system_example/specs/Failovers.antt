@@ -36,14 +36,14 @@ moves_in (Some Standby) = routing 1 (to 3 Standby ∷ (to 1 Neither ∷ [])) ∷
 moves_in (Some Neither) = []
 
 -- servers fail and are mended
-abbrev pub delays_in_lem : Option Mode → List Delay
-delays_in_lem None = []
-delays_in_lem (Some Both) = after 1 Standby ∷ []
-delays_in_lem (Some Standby) = after 5 Both ∷ (after 1 Neither ∷ [])
-delays_in_lem (Some Neither) = after 3 Standby ∷ []
+abbrev pub delays_in : Option Mode → List Delay
+delays_in None = []
+delays_in (Some Both) = after 1 Standby ∷ []
+delays_in (Some Standby) = after 5 Both ∷ (after 1 Neither ∷ [])
+delays_in (Some Neither) = after 3 Standby ∷ []
 
 abbrev pub failover : Meaning
 failover = record { width = 2; member = λ x. is_some (mode_of x); start = words_of Both; moves = λ x. moves_in (mode_of x) }
 
 abbrev pub failover_delays : List ℕ → List Delay
-failover_delays x = delays_in_lem (mode_of x)
+failover_delays x = delays_in (mode_of x)

@@ -1,5 +1,5 @@
 -- What a stack of frames has yet to give, and how much work that is.
-use Rattle.std.specs.Prelude.{◌≡◌, ℕ, zero, suc, ◌+◌, ◌-◌, ◌<◌, ◌≤◌, List, [], ◌∷◌, ◌++◌, length, get_or, replicate, Some, None, Option, slice_index, slice_index_or, slice_set, refl}
+use Rattle.std.specs.Prelude.{◌≡◌, ℕ, zero, suc, ◌+◌, ◌-◌, ◌<◌, ◌≤◌, List, [], ◌∷◌, ◌++◌, length, slice_index_or, replicate, Some, None, Option, slice_index, slice_set, refl}
 use Rattle.std.proofs.Common.{lit≤}
 use Rattle.std.specs.List.{range_with_len, flat_map}
 use Rattle.language.specs.Meanings.{Meaning}
@@ -69,7 +69,7 @@ module _ (sizes : List ℕ) (tree : ℕ → Tree) where
 pub record Ready (fs : List Frame) (d : ℕ) : Type 0 where
   pub room : length fs ≡ most_frames
   pub deep : d ≤ most_frames
-  pub sits : (i : ℕ) → i < d → i ≤ (get_or fs i no_frame).node
+  pub sits : (i : ℕ) → i < d → i ≤ (slice_index_or fs i no_frame).node
 
 -- what was left is what was found, if anything was, and what is left
 abbrev pub Gives : Option Found → List Leaf → List Leaf → Type 0
