@@ -1,9 +1,9 @@
 -- The equation of a model, and the term that a vector stands for.
---     entries_of      towards a call the parameters take their arguments; else the next place's free variables are kept; all others are reset
+--     entries_of              towards a call the parameters take their arguments; else the next place's free variables are kept; all others are reset
 --     actions_of, delays_of   a summand for each way that acts, and for each that waits, in node order
---     equation_of     the equation
---     stands         the term of a vector: its place with its values at the free variables
---     standing       a vector's transitions, each target the term that it stands for
+--     equation_of             the equation
+--     stands                  the term of a vector: its place with its values at the free variables
+--     standing                a vector's transitions, each target the term that it stands for
 use Rattle.std.specs.Prelude.{ℕ, ◌-◌, cond, List, [], ◌∷◌, map, length, slice_index}
 use Rattle.std.specs.List.{flat_map}
 use Rattle.language.specs.Meanings.{Meaning}

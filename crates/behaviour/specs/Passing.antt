@@ -1,9 +1,9 @@
 -- What stands above each node of a model, passed from node to child, and the summands node by node.
---     and_sum, and_condition   a sum variable, a condition more
---     passed v u f k         what stands above node k once a node v, above which u stands, has passed it on; f k before
---     above_at nodes start n k    the same once the first n nodes have, where `start` is given at first
---     above nodes start i    what stands above node i
---     actions_at, delays_at    the summand of an action node, and of a delay node
+--     and_sum, and_condition     a sum variable, a condition more
+--     passed v u f k             what stands above node k once a node v, above which u stands, has passed it on; f k before
+--     above_at nodes start n k   the same once the first n nodes have, where `start` is given at first
+--     above nodes start i        what stands above node i
+--     actions_at, delays_at      the summand of an action node, and of a delay node
 use Rattle.std.specs.Prelude.{ℕ, zero, suc, Bool, false, cond, ◌||◌, List, [], ◌∷◌, ◌++◌, Some, None, Option, ◌==◌}
 use Rattle.linear.specs.Equations.{Guarded, Acts, Leads, Summand}
 use Rattle.model.specs.Nodes.{NodeValue, call, condition, choice, sum, action, delay}

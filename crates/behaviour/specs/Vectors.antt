@@ -1,7 +1,7 @@
 -- What a vector does by an equation.
---     entered, arrives    what an entry makes of a variable, and the vector that a summand leads to
---     fires               the transitions of a summand under a valuation: for all values of its sums that meet its conditions
---     transitions_in       those of a vector, by summand, actions first
+--     entered, arrives   what an entry makes of a variable, and the vector that a summand leads to
+--     fires              the transitions of a summand under a valuation: for all values of its sums that meet its conditions
+--     transitions_in     those of a vector, by summand, actions first
 use Rattle.std.specs.Prelude.{ℕ, cond, List, [], ◌++◌, ◌==◌, slice_index, slice_index_or}
 use Rattle.std.specs.List.{flat_map}
 use Rattle.language.specs.Meanings.{Meaning}

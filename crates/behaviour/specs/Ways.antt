@@ -1,7 +1,7 @@
 -- The ways down from the resting places of a model to its action and delay nodes.
 --     Way          the node it ends at, its sum variables and conditions from the top, what is done there, and where it leads
 --     ways t       the ways down a tree, left to right
---     all_ways m    those of all places, by the numbers of their nodes, each with its place's program counter
+--     all_ways m   those of all places, by the numbers of their nodes, each with its place's program counter
 use Rattle.std.specs.Prelude.{ℕ, suc, List, [], ◌∷◌, ◌++◌, map}
 use Rattle.std.specs.List.{flat_map}
 use Rattle.valuation.specs.Doings.{Does, acts, waits}

@@ -1,12 +1,12 @@
 -- Where a variable is in scope in a flat model.
 --     any_below p n              p holds of some number below n
 --     in_node p o                there is a node, and p holds of it
---     parameter q x             x is a parameter of the process q
---     begins o x k              there is a process with the body k, of which x is a parameter
+--     parameter q x              x is a parameter of the process q
+--     begins o x k               there is a process with the body k, of which x is a parameter
 --     is_child v k               node k is a child of the node v
---     handed o x here k before  whether x is in scope at node k once the node o has handed its scope to its children: `here`
---                               says whether it is at o, `before` whether it was at k
---     starts g x k              x is a parameter, and k the body, of some process
+--     handed o x here k before   whether x is in scope at node k once the node o has handed its scope to its children: `here`
+--                                says whether it is at o, `before` whether it was at k
+--     starts g x k               x is a parameter, and k the body, of some process
 --     scope_at g x n k           x is in scope at node k, as far as the processes and the first n nodes tell
 --     in_scope g k x             x is in scope at node k
 use Rattle.std.specs.Prelude.{ℕ, zero, suc, ◌+◌, Bool, false, ◌&&◌, ◌||◌, length, Some, None, Option, ◌==◌, nat_le, nat_lt}

@@ -1,10 +1,10 @@
 -- A formula by its cells. Assumes nothing.
---     applied op x y      what an operation gives
---     step_of c v f        a cell's value, where f has the values of the cells before it
---     reads_of c x f       whether a cell names x, where f says it of the cells before it
+--     applied op x y             what an operation gives
+--     step_of c v f              a cell's value, where f has the values of the cells before it
+--     reads_of c x f             whether a cell names x, where f says it of the cells before it
 --     value_among, names_among   the same of cell e among the first n
---     lawful cs n         each of the first n cells keeps the rules
---     meaning_of cs n      the language of the first n cells
+--     lawful cs n                each of the first n cells keeps the rules
+--     meaning_of cs n            the language of the first n cells
 use Rattle.std.specs.Prelude.{ℕ, zero, suc, ◌+◌, ◌-◌, ◌*◌, Bool, true, false, cond, ◌&&◌, ◌||◌, List, ◌==◌, nat_lt, slice_index_or}
 use Rattle.language.specs.Files.{every}
 use Rattle.language.specs.Meanings.{Meaning, value_at, word}

@@ -1,5 +1,5 @@
 -- A formula file: after the header a count of cells, then cells of four words: operation, a, b, c.
---     decoded k op a b c   cell k by its words, or none where a word is off its rules
+--     decoded k op a b c    cell k by its words, or none where a word is off its rules
 --     cell_of bs k          cell k of a file, or its fault
 --     formula_file bs       the cells of a file, or its first fault in file order
 --     formula_language bs   the language of a file

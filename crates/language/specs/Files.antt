@@ -1,10 +1,10 @@
 -- What the bytes of a data file say, in the order of the file: a fault is the first one.
---     headed bs         the header
---     count_of bs        the count of expressions, which comes next
---     rows get n        n records, each as `get` reads it, or the first fault among them
---     every p n         p holds of each number below n
---     answer_of r        what a call answers that fills a language from such a file
---     Leaves r m b a    and what it leaves: the language a in place of b, or b itself
+--     headed bs        the header
+--     count_of bs      the count of expressions, which comes next
+--     rows get n       n records, each as `get` reads it, or the first fault among them
+--     every p n        p holds of each number below n
+--     answer_of r      what a call answers that fills a language from such a file
+--     Leaves r m b a   and what it leaves: the language a in place of b, or b itself
 use Rattle.std.specs.Prelude.{◌≡◌, ℕ, zero, suc, ◌+◌, Bool, true, cond, ◌&&◌, List, [], ◌∷◌, ◌++◌, length, Ok, Err, Result, nat_le, nat_lt}
 use Rattle.words.specs.Headers.{header_of}
 use Rattle.words.specs.Words.{word_at}

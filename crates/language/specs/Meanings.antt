@@ -1,9 +1,9 @@
 -- What a data language means. Assumes nothing.
---     Meaning      how many expressions, the value of each under a valuation, the variables it names
---     value_at v x  the value of variable x in the valuation v; beyond it 0
---     Agree p v w  the valuations v and w give each variable of which p holds one value
---     Lawful L     what every data language owes
---     word n       n, or the largest value where n passes it; AtMost n w says so in words
+--     Meaning        how many expressions, the value of each under a valuation, the variables it names
+--     value_at v x   the value of variable x in the valuation v; beyond it 0
+--     Agree p v w    the valuations v and w give each variable of which p holds one value
+--     Lawful L       what every data language owes
+--     word n         n, or the largest value where n passes it; AtMost n w says so in words
 use Rattle.std.specs.Prelude.{◌≡◌, ℕ, ◌<◌, ◌≤◌, min, Bool, true, false, List, slice_index}
 
 pub record Meaning : Type 0 where

@@ -1,8 +1,8 @@
 -- The linear file of an equation: its words in the order of the file, under the header. Assumes nothing.
 --     counted xs   a list with its count in front
---     words_of E    V and the sizes, the number of program counters, the first vector,
+--     words_of E   V and the sizes, the number of program counters, the first vector,
 --                  a count and the action summands, a count and the delay summands
---     file_of E     the file
+--     file_of E    the file
 use Rattle.std.specs.Prelude.{ℕ, List, [], ◌∷◌, ◌++◌, length}
 use Rattle.std.specs.List.{flat_map}
 use Rattle.words.specs.Headers.{headed}

@@ -1,11 +1,11 @@
 -- What the bytes of a linear file say, in the order of the file: a fault is the first one.
---     word_in, words_in    a word or n words at p, or cut
---     count_in, list_in    a count of at most so many, and a list with its count in front
+--     word_in, words_in                      a word or n words at p, or cut
+--     count_in, list_in                      a count of at most so many, and a list with its count in front
 --     guard_in, acts_in, rate_in, leads_in   the parts of a summand
---     summand_in          a summand; where an entry is none, it has no entries
---     section_in          a count and its summands, and where they end
---     table_in            the whole file: versions, lengths and limits
---     linear_file         the equation of a file, or its fault: misnamed things over all come next, then products
+--     summand_in                             a summand; where an entry is none, it has no entries
+--     section_in                             a count and its summands, and where they end
+--     table_in                               the whole file: versions, lengths and limits
+--     linear_file                            the equation of a file, or its fault: misnamed things over all come next, then products
 use Rattle.std.specs.Prelude.{◌≡◌, ℕ, zero, suc, ◌+◌, ◌-◌, ◌*◌, Bool, cond, List, [], ◌∷◌, ◌++◌, length, Some, None, Ok, Err, Option, Result, ◌==◌, nat_le, nat_lt, slice_index}
 use Rattle.words.specs.Headers.{header_of}
 use Rattle.words.specs.Words.{word_at}

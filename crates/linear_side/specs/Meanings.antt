@@ -1,7 +1,7 @@
 -- A linear equation under a data language as a system. Its states are vectors in words: the program counter, then the values.
---     vector_words, vector_of    the words of a vector, and the vector of words
---     is_vector E x             the words are a vector: a program counter of E, and a value below its size for each variable
---     linear_meaning, linear_delays    the system
+--     vector_words, vector_of         the words of a vector, and the vector of words
+--     is_vector E x                   the words are a vector: a program counter of E, and a value below its size for each variable
+--     linear_meaning, linear_delays   the system
 use Rattle.std.specs.Prelude.{ℕ, suc, Bool, false, ◌&&◌, List, [], ◌∷◌, length}
 use Rattle.language.specs.Meanings as language
 use Rattle.linear.specs.Equations.{Vector, Linear}

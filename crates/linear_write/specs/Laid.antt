@@ -1,7 +1,7 @@
 -- Words laid into a buffer, and what writing answers.
---     laid bs p ws        the bytes with the words ws from p on
---     over file bs        the file in front of what the buffer has beyond it
---     write_answer n m     whether a file of n bytes finds room in m
+--     laid bs p ws       the bytes with the words ws from p on
+--     over file bs       the file in front of what the buffer has beyond it
+--     write_answer n m   whether a file of n bytes finds room in m
 use Rattle.std.specs.Prelude.{ℕ, ◌+◌, cond, List, [], ◌∷◌, ◌++◌, length, drop, Ok, Err, Result, nat_lt}
 use Rattle.words.specs.Put.{put_word}
 use Rattle.linear_write.specs.declared.fault.WriteFault.{WriteFault}

@@ -1,5 +1,5 @@
 -- A model as its file has it: a list for each section. Children, arguments and parameters are numbers.
---     flat bs         the model whose file has these bytes
+--     flat bs          the model whose file has these bytes
 --     footprint_of g   a number of bytes that no linear file of g exceeds
 use Rattle.std.specs.Prelude.{ℕ, ◌+◌, ◌*◌, List, [], ◌∷◌, map, length, Some, None, Option}
 use Rattle.std.specs.List.{range_with_len}

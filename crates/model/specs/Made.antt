@@ -1,7 +1,7 @@
 -- What the flat model of an accepted file has, over its lists.
---     Fits g n s      what s, as node n, names is there
---     owner_of g v     one more than the node that binds v; 0 where a parameter does
---     Made g          all of it
+--     Fits g n s     what s, as node n, names is there
+--     owner_of g v   one more than the node that binds v; 0 where a parameter does
+--     Made g         all of it
 use Rattle.std.specs.Prelude.{◌≡◌, ℕ, suc, ◌+◌, ◌<◌, ◌≤◌, Bool, false, cond, List, [], ◌∷◌, length, slice_index, slice_index_or, Some, ◌==◌}
 use Rattle.std.specs.List.{slice_get}
 use Rattle.model_file.specs.Limits.{Between, Run}

@@ -1,6 +1,6 @@
 -- The trees of a flat model: each node with its children in place of their numbers.
 --     grown g i ns   the trees of the nodes ns, the first of which is node i
---     tree_of g n     the tree of node n
+--     tree_of g n    the tree of node n
 use Rattle.std.specs.Prelude.{ℕ, suc, ◌-◌, List, [], ◌∷◌, slice_index_or}
 use Rattle.model_rules.specs.declared.shape.Shape.{Shape}
 use Rattle.model_rules.specs.declared.shape.Shape.TheVariants as shape

@@ -1,6 +1,6 @@
 -- Where the sections and records of a model file stand, by the counts in its bytes.
 --     layout_of bs                the layout that the bytes give, whatever they are
---     size_at v, process_at l i    where a record begins
+--     size_at v, process_at l i   where a record begins
 --     end_at bs l                 where the file ends
 use Rattle.std.specs.Prelude.{ℕ, ◌+◌, ◌*◌, List}
 use Rattle.words.specs.Words.{word_at}

@@ -1,8 +1,8 @@
 -- The first fault of a model file in file order.
 --     width, section_of, place_of, fewest, most   a record's bytes, its section and number, the limits of the section's count
---     keeps bs r p i                            record i, which begins at p, is within its limits
+--     keeps bs r p i                              record i, which begins at p, is within its limits
 --     record_fault, records_fault, section_fault, start_fault
---     sectioned bs                              the bytes are the header and the six sections, or the first fault
+--     sectioned bs                                the bytes are the header and the six sections, or the first fault
 use Rattle.std.specs.Prelude.{ℕ, zero, suc, ◌+◌, ◌*◌, Bool, true, cond, ◌&&◌, List, length, Ok, Err, Result, ◌==◌, nat_le, nat_lt}
 use Rattle.words.specs.Words.{word_at}
 use Rattle.words.specs.Headers.{header_of}

@@ -1,6 +1,6 @@
 -- The first rule over the whole file that it breaks.
 --     holds, fault_of   whether record i keeps a rule, and its fault if not
---     ruled bs         no rule is broken, or the first fault: by rule, then by record
+--     ruled bs          no rule is broken, or the first fault: by rule, then by record
 use Rattle.std.specs.Prelude.{ℕ, zero, suc, ◌+◌, Bool, cond, List, Ok, Err, Result}
 use Rattle.model_file.specs.declared.fault.ModelFault.{ModelFault}
 use Rattle.model_file.specs.declared.fault.ModelFault.TheVariants as fault

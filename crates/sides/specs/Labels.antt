@@ -1,6 +1,6 @@
 -- The label of an action under a valuation. Assumes nothing.
---     values_of L es ρ       the values of the expressions es
---     labelled L a es ρ     the action a with the values of its arguments
+--     values_of L es ρ    the values of the expressions es
+--     labelled L a es ρ   the action a with the values of its arguments
 use Rattle.std.specs.Prelude.{ℕ, List, map, length}
 use Rattle.language.specs.Meanings.{Meaning}
 use Rattle.system.specs.Questions.{padded}

@@ -1,6 +1,6 @@
 -- Which nodes have a program counter, and which one.
 --     lower p n        how many nodes below n have p
---     counter_at p n    the counter of node n, where p are the resting places
+--     counter_at p n   the counter of node n, where p are the resting places
 --     Counts bs l r    in words: a node has a counter just where it is a resting place, and counters count the places from 1
 use Rattle.std.specs.Prelude.{◌≡◌, ℕ, zero, suc, ◌+◌, ◌<◌, Bool, true, false, cond, List, Some, None, Option, ◌==◌, slice_index_or}
 use Rattle.model_file.specs.declared.layout.Layout.{Layout}

@@ -1,5 +1,5 @@
 -- A model whose processes have trees, and its terms.
---     model_of g     the model of a flat one
+--     model_of g    the model of a flat one
 --     process m p   process p; where there is none, one without parameters
 --     param q x     variable x is a parameter of the process q
 --     node t        the number of a tree's node

@@ -1,9 +1,9 @@
 -- Resting places and their program counters.
 --     in_order key k xs   sorted by a number below k: those with 0, then those with 1, and so on
---     below t            the places below a tree: each child of an action or a delay but a call
---     places m           the places, in node order: each body, and those below
---     counter m n        the program counter of the place at node n: places are numbered from 1
---     place m c          the place of a program counter
+--     below t             the places below a tree: each child of an action or a delay but a call
+--     places m            the places, in node order: each body, and those below
+--     counter m n         the program counter of the place at node n: places are numbered from 1
+--     place m c           the place of a program counter
 use Rattle.std.specs.Prelude.{ℕ, suc, ◌-◌, not, List, [], ◌∷◌, ◌++◌, filter, ◌==◌, nat_eq, slice_index_or}
 use Rattle.std.specs.List.{range_with_len, flat_map, prefix_len}
 use Rattle.model.specs.Trees.{Tree, call, when, choice, sum, action, delay}

@@ -1,10 +1,10 @@
 -- The derivations of a term, as a list in order.
---     term L sizes t v        the term of the place t with these values at its free variables
---     given L m p es ρ x      the value of x after a call: each parameter given its argument, all worked out under ρ
---     target L m n ρ          where an action or a delay leads
---     transitions L m t ρ     the derivations' results: a condition that holds gives its child's, a choice its left child's and
---                             then its right's, a sum its child's for 0, 1 and so on, an action and a delay at most one
---     start_term L m           the start process's body with its values
+--     term L sizes t v      the term of the place t with these values at its free variables
+--     given L m p es ρ x    the value of x after a call: each parameter given its argument, all worked out under ρ
+--     target L m n ρ        where an action or a delay leads
+--     transitions L m t ρ   the derivations' results: a condition that holds gives its child's, a choice its left child's and
+--                           then its right's, a sum its child's for 0, 1 and so on, an action and a delay at most one
+--     start_term L m        the start process's body with its values
 use Rattle.std.specs.Prelude.{ℕ, ◌-◌, cond, List, [], ◌++◌, slice_index, slice_set}
 use Rattle.std.specs.List.{flat_map}
 use Rattle.language.specs.Meanings.{Meaning}

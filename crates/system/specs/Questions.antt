@@ -1,4 +1,4 @@
--- What each question answers, by a system's lists: NAME-answer is the answer of the question NAME.
+-- What each question answers, by a system's lists: NAME_answer is the answer of the question NAME.
 -- Refusals come in the order buffer, state, move or delay, outcome.
 use Rattle.std.specs.Prelude.{ℕ, ◌-◌, Bool, cond, List, [], ◌++◌, length, take, replicate, Some, None, Ok, Err, Option, Result, ◌==◌}
 use Rattle.std.specs.List.{slice_get}

@@ -1,9 +1,9 @@
 -- A table by its records and values. Assumes nothing.
---     ruled r              a record keeps the rules: variables 0 to 15, m from 1 to 256
---     lawful rs n          each of the first n records does
---     place_of r v          where a record looks under the valuation v
---     entry_at es t p       value p of the first t, or 0 where there is none
---     meaning_of rs n es t  the language of the first n records, over the first t values
+--     ruled r                a record keeps the rules: variables 0 to 15, m from 1 to 256
+--     lawful rs n            each of the first n records does
+--     place_of r v           where a record looks under the valuation v
+--     entry_at es t p        value p of the first t, or 0 where there is none
+--     meaning_of rs n es t   the language of the first n records, over the first t values
 use Rattle.std.specs.Prelude.{ℕ, ◌+◌, ◌*◌, Bool, false, cond, ◌&&◌, ◌||◌, List, ◌==◌, nat_le, nat_lt, slice_index, slice_index_or}
 use Rattle.language.specs.Files.{every}
 use Rattle.language.specs.Meanings.{Meaning, value_at, word}

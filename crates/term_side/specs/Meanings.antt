@@ -1,11 +1,11 @@
 -- A model under a data language as a system. Its states are terms in words: the node of a resting place, then the values.
 -- `kept n x` tells whether the term of place n has a value for variable x; elsewhere the value is 0. The term side of a model
 -- keeps the free variables (free_in).
---     term_words, term_of        the words of a term, and the term of words
---     kept_term, kept_target     the term of a place with these values; where an action or a delay leads
---     kept_transitions          the transitions of a tree, as `transitions` has them, but that terms have what is kept
---     is_term bs kept x         the words are a term: a resting place, and a value below its size for each variable, 0 where not kept
---     term_meaning, term_delays  the system
+--     term_words, term_of         the words of a term, and the term of words
+--     kept_term, kept_target      the term of a place with these values; where an action or a delay leads
+--     kept_transitions            the transitions of a tree, as `transitions` has them, but that terms have what is kept
+--     is_term bs kept x           the words are a term: a resting place, and a value below its size for each variable, 0 where not kept
+--     term_meaning, term_delays   the system
 use Rattle.std.specs.Prelude.{ℕ, suc, Bool, true, false, cond, ◌&&◌, ◌||◌, List, [], ◌∷◌, ◌++◌, length, ◌==◌, nat_lt, slice_index, slice_set}
 use Rattle.std.specs.List.{flat_map}
 use Rattle.language.specs.Meanings as language

@@ -1,8 +1,8 @@
 -- What an action or a delay does under a valuation.
---     Does                 an action with its arguments, variable and weight; or a delay with its rate
---     outcomes L sizes x w to ρ     one for each value of x, from 0 up, its weight and target worked out with that value
---     total_weight L sizes x w ρ     the sum of their weights
---     does L sizes d to ρ  at most one transition: none where the weights' sum or the rate is 0; `to` gives the target
+--     Does                         an action with its arguments, variable and weight; or a delay with its rate
+--     outcomes L sizes x w to ρ    one for each value of x, from 0 up, its weight and target worked out with that value
+--     total_weight L sizes x w ρ   the sum of their weights
+--     does L sizes d to ρ          at most one transition: none where the weights' sum or the rate is 0; `to` gives the target
 use Rattle.std.specs.Prelude.{ℕ, cond, List, [], ◌∷◌, map, sum_by, ◌==◌, slice_set}
 use Rattle.language.specs.Meanings.{Meaning}
 use Rattle.valuation.specs.Transitions.{Outcome, Transition, move, wait}

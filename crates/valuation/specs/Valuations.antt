@@ -1,10 +1,10 @@
 -- Values, one for each variable, and conditions over them.
 --     values_of sizes x     what variable x can hold: 0, 1, .. size − 1
---     each sizes f         one thing for each variable
---     cut sizes x v        the value v fitted to variable x: the largest it can hold where v passes that
---     holds L e ρ          the condition e holds under ρ: its value is not 0
---     spread sizes xs k ρ  k under ρ for all values of the variables xs, the first slowest
---     listed v             the values that a valuation of the program has
+--     each sizes f          one thing for each variable
+--     cut sizes x v         the value v fitted to variable x: the largest it can hold where v passes that
+--     holds L e ρ           the condition e holds under ρ: its value is not 0
+--     spread sizes xs k ρ   k under ρ for all values of the variables xs, the first slowest
+--     listed v              the values that a valuation of the program has
 use Rattle.std.specs.Prelude.{ℕ, ◌-◌, min, Bool, true, not, ◌&&◌, List, [], ◌∷◌, map, length, take, ◌==◌, slice_index, slice_set}
 use Rattle.std.specs.List.{range_with_len, flat_map}
 use Rattle.language.specs.Meanings.{Meaning}

@@ -2,7 +2,7 @@
 --     leaves L sizes t ρ   each leaf with the valuation on the way that leads there
 --     living p L ..        those that pass the test p
 --     most sizes t         how many there are where every condition holds
---     leaf_of f             a leaf that the program found
+--     leaf_of f            a leaf that the program found
 use Rattle.std.specs.Prelude.{ℕ, ◌+◌, ◌*◌, ◌^◌, Bool, cond, List, [], ◌∷◌, ◌++◌, filter, slice_index, slice_set}
 use Rattle.std.specs.List.{flat_map}
 use Rattle.language.specs.Meanings.{Meaning}

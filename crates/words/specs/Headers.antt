@@ -1,6 +1,6 @@
 -- The header of a file.
 --     header_of bs   whether the bytes begin with the header of a whole file, or why not
---     headed rest   the file whose bytes after the header are `rest`
+--     headed rest    the file whose bytes after the header are `rest`
 use Rattle.std.specs.Prelude.{ℕ, ◌-◌, ◌/◌, ◌%◌, cond, not, ◌||◌, List, [], ◌∷◌, ◌++◌, length, Ok, Err, Result, ◌==◌, nat_lt, slice_index}
 use Rattle.words.specs.Words.{long_at}
 use Rattle.words.specs.declared.header.HeaderFault.{HeaderFault}

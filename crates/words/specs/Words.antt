@@ -2,7 +2,7 @@
 --     word_at bs p   the word whose two bytes begin at p
 --     long_at bs p   the number whose four bytes begin at p
 --     bytes_of ws    words as bytes
---     Bytes bs      each element is a byte
+--     Bytes bs       each element is a byte
 use Rattle.std.specs.Prelude.{ℕ, ◌+◌, ◌*◌, ◌/◌, ◌%◌, ◌<◌, List, [], ◌∷◌, slice_index}
 
 abbrev pub word_at : List ℕ → ℕ → ℕ
