@@ -1,7 +1,7 @@
 // Two pools of servers behind one balancer: a state says how many of each are busy.
 ghost use Rattle.std.specs.Prelude.{◌≡◌, ◌<◌, ◌≤◌, [], ◌∷◌, length};
 ghost use Rattle.explore_bench.specs.Pooling.{busier, calmer, in_pools, pools, pools_delays};
-ghost use Rattle.std.proofs.Common.{rules, arith};
+ghost use Rattle.std.proofs.Common.{rules};
 
 use system::{Label, Markov, Rate, Refusal, System, Weight};
 
