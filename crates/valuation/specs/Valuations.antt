@@ -6,7 +6,7 @@
 --     spread sizes xs k ρ   k under ρ for all values of the variables xs, the first slowest
 --     listed v              the values that a valuation of the program has
 use Rattle.std.specs.Prelude.{ℕ, ◌-◌, min, Bool, true, not, ◌&&◌, List, [], ◌∷◌, map, length, take, ◌==◌, slice_index, slice_set}
-use Rattle.std.specs.List.{range_with_len, flat_map}
+use Rattle.std.specs.List.{range_with_len, flat_map, list_all}
 use Rattle.language.specs.Meanings.{Meaning}
 use Rattle.valuation.specs.declared.valuation.Valuation.{Valuation}
 
@@ -23,8 +23,7 @@ abbrev pub holds : Meaning → ℕ → List ℕ → Bool
 holds L e ρ = not (L.value e ρ == 0)
 
 abbrev pub all_hold : Meaning → List ℕ → List ℕ → Bool
-all_hold L [] ρ = true
-all_hold L (e ∷ es) ρ = holds L e ρ && all_hold L es ρ
+all_hold L es ρ = list_all (λ e. holds L e ρ) es
 
 abbrev pub spread : {X : Type 0} → List ℕ → List ℕ → (List ℕ → List X) → List ℕ → List X
 spread sizes [] k ρ = k ρ

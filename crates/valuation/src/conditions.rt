@@ -14,10 +14,7 @@ pub fn holds<L: Language>(language: &L, condition: u16, valuation: &Valuation) -
 pub fn all_hold<L: Language>(language: &L, conditions: &[u16], valuation: &Valuation) -> bool
     ensures answer { result ≡ all_hold (L.Language.meaning language.now) conditions.now (listed valuation.now) }
 {
-    for condition in conditions {
-        if !holds(language, *condition, valuation) {
-            return false;
-        }
-    }
-    true
+    conditions
+        .iter()
+        .all(|condition| holds(language, *condition, valuation))
 }

@@ -8,12 +8,5 @@ use language::variable_value;
 pub fn fit(sizes: &[u16], variable: u16, value: u16) -> u16
     ensures answer { result ≡ cut sizes.now variable value }
 {
-    let size = variable_value(sizes, variable);
-    if value < size {
-        return value;
-    }
-    if size == 0 {
-        return 0;
-    }
-    size - 1
+    value.min(variable_value(sizes, variable).saturating_sub(1))
 }

@@ -3,7 +3,7 @@ ghost use Rattle.std.specs.Prelude.{◌≡◌, ◌≤◌, length};
 
 pub const MOST_VARIABLES: usize = 16;
 
-// The first `width` values count.
+// The first `width` values count. It is copied with each frame of a cursor, so it has a fixed size and no heap.
 #[derive(Clone, Copy)]
 pub struct Valuation {
     pub(crate) width: usize,

@@ -17,11 +17,10 @@ pub fn total_weight<L: Language>(
     ensures answer { result ≡ total_weight (L.Language.meaning language.now) sizes.now variable weight (listed valuation.now) }
     ensures small { result ≤ 65535 * slice_index sizes.now variable }
 {
-    let mut sum: u64 = 0;
-    let size = variable_value(sizes, variable);
-    for value in 0..size {
+    let mut sum = 0;
+    for value in 0..variable_value(sizes, variable) {
         let set = valuation.with(variable, value);
-        sum += language.value(weight, set.values()) as u64;
+        sum += u64::from(language.value(weight, set.values()));
     }
     sum
 }

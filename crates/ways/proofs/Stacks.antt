@@ -1,4 +1,4 @@
--- What a stack of frames gives, as a frame is taken off and others are put on.
+-- What the tree of a frame gives, and the work left in it, as a sum goes on.
 use Rattle.std.proofs.Common.{◌≡◌, ℕ, zero, suc, ◌+◌, ◌-◌, ◌<◌, ◌≤◌, ◌≢◌, List, [], ◌++◌, length, get_or, set, sym, refl, ap, ◌∙◌, subst, ap₂, ⊎_elim, add-one, arith, length-set, get_or-set_other, get_or-set_same}
 use Rattle.std.specs.List.{range_with_len, flat_map}
 use Rattle.std.proofs.lemmas.Bool.{cases_eq}
@@ -6,41 +6,7 @@ use Rattle.language.specs.Meanings.{Meaning}
 use Rattle.ways.specs.declared.frames.Frame.{Frame}
 use Rattle.ways.specs.Trees.{Tree, dead, when, choice, sum, leaf, most_frames}
 use Rattle.ways.specs.Leaves.{leaves}
-use Rattle.ways.specs.Stacks.{leaves_from, no_frame, over, rounds, work, work_from, Ready}
-
--- frames
-module _ {X : Type 0} (h : Frame → X → X) (z : X) where
-  pub over_keep : (fs : List Frame) (at : ℕ) (f : Frame) (d : ℕ) → d ≤ at → over h z (set fs at f) d ≡ over h z fs d
-  over_keep fs at f zero l = refl
-  over_keep fs at f (suc d) l =
-      let ne : d ≢ at = omega arith in
-      ap₂ h (get_or-set_other fs at d f no_frame ne) (over_keep fs at f d (omega arith))
-
-  pub over_put : (fs : List Frame) (at : ℕ) (f : Frame) → at < length fs → over h z (set fs at f) (at + 1) ≡ h f (over h z fs at)
-  over_put fs at f l = rw add-one (ap₂ h (get_or-set_same fs at f no_frame l) (over_keep fs at f at (omega arith)))
-
-  pub over_top : (fs : List Frame) (d at : ℕ) (f : Frame) → d ≡ at + 1 → get_or fs at no_frame ≡ f → over h z fs d ≡ h f (over h z fs at)
-  over_top fs d at f e t = ap (over h z fs) (e ∙ add-one at) ∙ ap (λ y. h y (over h z fs at)) t
-
-  pub over_two : (fs : List Frame) (at : ℕ) (f g : Frame) → at + 1 < length fs → over h z (set (set fs at f) (at + 1) g) (at + 1 + 1) ≡ h g (h f (over h z fs at))
-  over_two fs at f g l = over_put (set fs at f) (at + 1) g (simp length-set l) ∙ ap (h g) (over_put fs at f (omega arith))
-
-pub ready_pop : (fs : List Frame) (d at : ℕ) → at ≤ d → Ready fs d → Ready fs at
-ready_pop fs d at l r = record { room = r.room; deep = omega (arith, r.deep); sits = λ i m. r.sits i (omega arith) }
-
--- a frame at a node of at least its place is put on top
-pub ready_put : (fs : List Frame) (at : ℕ) (f : Frame) → Ready fs at → at < most_frames → at ≤ f.node → Ready (set fs at f) (at + 1)
-ready_put fs at f r l s = record {
-  room = length-set fs at f ∙ r.room;
-  deep = omega arith;
-  sits = λ i m. ⊎_elim
-      (λ (e : i ≡ at). subst (λ k. k ≤ (get_or (set fs at f) k no_frame).node) (sym e) (subst (λ (g : Frame). at ≤ g.node) (sym (get_or-set_same fs at f no_frame (omega (arith, r.room)))) s))
-      (λ (n : i ≡ at → ⊥). subst (λ (g : Frame). i ≤ g.node) (sym (get_or-set_other fs at i f no_frame n)) (r.sits i (omega (arith, n))))
-      (cases_eq i at);
-}
-
-pub ready_two : (fs : List Frame) (at : ℕ) (f g : Frame) → Ready fs at → at + 1 < most_frames → at ≤ f.node → at + 1 ≤ g.node → Ready (set (set fs at f) (at + 1) g) (at + 1 + 1)
-ready_two fs at f g r l s t = ready_put (set fs at f) (at + 1) g (ready_put fs at f r (omega arith) s) l t
+use Rattle.ways.specs.Stacks.{leaves_from, rounds, work, work_from}
 
 -- trees
 module _ (L : Meaning) (sizes : List ℕ) where

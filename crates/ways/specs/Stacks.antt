@@ -1,5 +1,5 @@
 -- What a stack of frames has yet to give, and how much work that is.
-use Rattle.std.specs.Prelude.{◌≡◌, ℕ, zero, suc, ◌+◌, ◌-◌, ◌<◌, ◌≤◌, List, [], ◌∷◌, ◌++◌, length, slice_index_or, replicate, Some, None, Option, slice_index, slice_set, refl}
+use Rattle.std.specs.Prelude.{◌≡◌, ℕ, zero, suc, ◌+◌, ◌-◌, ◌<◌, ◌≤◌, List, [], ◌∷◌, ◌++◌, length, reverse, slice_index_or, replicate, sum_by, Some, None, Option, slice_index, slice_set, refl}
 use Rattle.std.proofs.Common.{lit≤}
 use Rattle.std.specs.List.{range_with_len, flat_map}
 use Rattle.language.specs.Meanings.{Meaning}
@@ -25,18 +25,13 @@ no_valuation = record { width = 0; values = replicate 16 0; narrow = lit≤ tt; 
 abbrev pub no_frame : Frame
 no_frame = record { node = 0; from = 0; valuation = no_valuation }
 
--- the first d frames, the last one first
-abbrev pub over : {X : Type 0} → (Frame → X → X) → X → List Frame → ℕ → X
-over h z fs zero = z
-over h z fs (suc d) = h (slice_index_or fs d no_frame) (over h z fs d)
-
 module _ (L : Meaning) (sizes : List ℕ) (tree : ℕ → Tree) where
   abbrev pub frame_leaves : Frame → List Leaf
   frame_leaves f = leaves_from L sizes (tree f.node) f.from (listed f.valuation)
 
-  -- what the first d frames give
-  abbrev pub remaining : List Frame → ℕ → List Leaf
-  remaining = over (λ f xs. frame_leaves f ++ xs) []
+  -- what the frames give, the last one first
+  abbrev pub remaining : List Frame → List Leaf
+  remaining fs = flat_map frame_leaves (reverse fs)
 
 -- how many turns are left
 abbrev pub rounds : ℕ → ℕ → ℕ
@@ -62,14 +57,12 @@ module _ (sizes : List ℕ) (tree : ℕ → Tree) where
   abbrev pub frame_work : Frame → ℕ
   frame_work f = work_from sizes (tree f.node) f.from
 
-  abbrev pub work_left : List Frame → ℕ → ℕ
-  work_left = over (λ f n. frame_work f + n) 0
+  abbrev pub work_left : List Frame → ℕ
+  work_left fs = sum_by frame_work fs
 
 -- frame i is at a node of at least i
-pub record Ready (fs : List Frame) (d : ℕ) : Type 0 where
-  pub room : length fs ≡ most_frames
-  pub deep : d ≤ most_frames
-  pub sits : (i : ℕ) → i < d → i ≤ (slice_index_or fs i no_frame).node
+abbrev pub Rising : List Frame → Type 0
+Rising fs = (i : ℕ) → i < length fs → i ≤ (slice_index_or fs i no_frame).node
 
 -- what was left is what was found, if anything was, and what is left
 abbrev pub Gives : Option Found → List Leaf → List Leaf → Type 0
@@ -81,13 +74,8 @@ abbrev pub Yields : Option Found → List Leaf → List Leaf → Type 0
 Yields None before after = before ≡ []
 Yields (Some f) before after = before ≡ leaf_of f ∷ after
 
+-- one turn takes the frame f, which was on top of others, and leads from those to the frames gs
 module _ (L : Meaning) (sizes : List ℕ) (tree : ℕ → Tree) where
-  -- one turn leads from d frames to n frames
-  pub record Turned (fs : List Frame) (d : ℕ) (r : Option Found) (gs : List Frame) (n : ℕ) : Type 0 where
-    pub ready : Ready gs n
-    pub gives : Gives r (remaining L sizes tree fs d) (remaining L sizes tree gs n)
-    pub falls : work_left sizes tree gs n < work_left sizes tree fs d
-
-  pub record Nexted (fs : List Frame) (d : ℕ) (r : Option Found) (gs : List Frame) (n : ℕ) : Type 0 where
-    pub ready : Ready gs n
-    pub yields : Yields r (remaining L sizes tree fs d) (remaining L sizes tree gs n)
+  pub record Turned (f : Frame) (fs : List Frame) (r : Option Found) (gs : List Frame) : Type 0 where
+    pub gives : Gives r (frame_leaves L sizes tree f ++ remaining L sizes tree fs) (remaining L sizes tree gs)
+    pub falls : work_left sizes tree gs < frame_work sizes tree f + work_left sizes tree fs

@@ -4,7 +4,7 @@ ghost use Rattle.valuation.specs.Valuations.{listed};
 ghost use Rattle.ways.specs.Leaves.{living, most_leaves};
 
 use crate::branch::Asked;
-use crate::cursor::start;
+use crate::cursor::Cursor;
 use crate::nodes::Nodes;
 use language::Language;
 use valuation::Valuation;
@@ -19,8 +19,8 @@ pub fn count<N: Nodes, L: Language>(
     ensures answer { result ≡ length (living (N.Nodes.lives nodes.now asked) (L.Language.meaning language.now) (N.Nodes.sizes nodes.now) (N.Nodes.tree nodes.now node) (listed valuation)) }
     ensures small { result ≤ most_leaves }
 {
-    let mut cursor = start(node, valuation);
-    let mut number: u64 = 0;
+    let mut cursor = Cursor::new(node, valuation);
+    let mut number = 0;
     while let Some(found) = cursor.next(nodes, language) {
         if nodes.lives(asked, language, &found) {
             number += 1;

@@ -1,4 +1,6 @@
-// The stack of a cursor.
+// A frame of a cursor's stack.
+ghost use Rattle.std.specs.Prelude.{◌≡◌};
+
 use valuation::Valuation;
 
 // A node to go down from, under a valuation; a sum goes on from the value `from`.
@@ -9,10 +11,22 @@ pub struct Frame {
     pub(crate) valuation: Valuation,
 }
 
-// The first `depth` frames are in use, the last of them first. Children are higher than their
-// parents, so frame i is at a node of at least i, and 256 frames suffice.
-#[derive(Clone, Copy)]
-pub struct Cursor {
-    pub(crate) depth: usize,
-    pub(crate) frames: [Frame; 256],
+impl Frame {
+    // A frame that begins at a node.
+    pub(crate) fn new(node: u16, valuation: Valuation) -> Frame
+        ensures { result ≡ record { node = node; from = 0; valuation = valuation } }
+    {
+        Frame {
+            node,
+            from: 0,
+            valuation,
+        }
+    }
+}
+
+// Fills the places of a stack that are not in use.
+impl Default for Frame {
+    fn default() -> Frame {
+        Frame::new(0, Valuation::new(&[]))
+    }
 }

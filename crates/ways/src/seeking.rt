@@ -1,37 +1,37 @@
 // The leaves of a node that count, by number.
-ghost use Rattle.std.specs.Prelude.{◌≡◌, ◌-◌, length};
+ghost use Rattle.std.specs.Prelude.{◌≡◌, ◌+◌, length, IfOk, IfErr, Some};
 ghost use Rattle.std.specs.List.{slice_get};
-ghost use Rattle.std.specs.Option.{option_map};
 ghost use Rattle.valuation.specs.Valuations.{listed};
 ghost use Rattle.ways.specs.Leaves.{living, leaf_of};
 
 use crate::branch::{Asked, Found};
-use crate::cursor::start;
+use crate::cursor::Cursor;
 use crate::nodes::Nodes;
 use language::Language;
 use valuation::Valuation;
 
-// The leaf of this number, which falls by how many there are where they are too few: so a look
-// goes on among the leaves of another node.
+// The leaf of this number. Where they are too few, the number less how many they are, so that a look goes on among the
+// leaves of another node.
 pub fn seek<N: Nodes, L: Language>(
     nodes: &N,
     language: &L,
     asked: Asked,
     node: u16,
     valuation: Valuation,
-    number: &mut u64,
-) -> Option<Found>
-    ensures answer { option_map leaf_of result ≡ slice_get (living (N.Nodes.lives nodes.now asked) (L.Language.meaning language.now) (N.Nodes.sizes nodes.now) (N.Nodes.tree nodes.now node) (listed valuation)) number.old }
-    ensures leaves { number.new ≡ number.old - length (living (N.Nodes.lives nodes.now asked) (L.Language.meaning language.now) (N.Nodes.sizes nodes.now) (N.Nodes.tree nodes.now node) (listed valuation)) }
+    number: u64,
+) -> Result<Found, u64>
+    ensures found { IfOk result (λ f. slice_get (living (N.Nodes.lives nodes.now asked) (L.Language.meaning language.now) (N.Nodes.sizes nodes.now) (N.Nodes.tree nodes.now node) (listed valuation)) number ≡ Some (leaf_of f)) }
+    ensures left { IfErr result (λ n. n + length (living (N.Nodes.lives nodes.now asked) (L.Language.meaning language.now) (N.Nodes.sizes nodes.now) (N.Nodes.tree nodes.now node) (listed valuation)) ≡ number) }
 {
-    let mut cursor = start(node, valuation);
+    let mut left = number;
+    let mut cursor = Cursor::new(node, valuation);
     while let Some(found) = cursor.next(nodes, language) {
         if nodes.lives(asked, language, &found) {
-            if *number == 0 {
-                return Some(found);
+            if left == 0 {
+                return Ok(found);
             }
-            *number -= 1;
+            left -= 1;
         }
     }
-    None
+    Err(left)
 }
