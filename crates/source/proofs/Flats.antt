@@ -22,7 +22,7 @@ use Rattle.model_rules.proofs.Held.{rules_held}
 use Rattle.model_rules.proofs.Ruled.{soundly}
 use Rattle.model.specs.Accept.{judged}
 use Rattle.model.specs.Flat.{flat, node_of, or_delay}
-use Rattle.source.proofs.Grown.{Rises, RisesFrom}
+use Rattle.source.specs.Nodes.{Rises, RisesFrom}
 
 ok_is : (r : Result (Unit {0}) ModelFault) → is_ok r ≡ true → r ≡ Ok tt
 ok_is (Ok x) h = refl

@@ -7,18 +7,7 @@ use Rattle.model_rules.specs.declared.shape.Shape.TheVariants.{Call, Condition, 
 use Rattle.model.specs.Flat.{Flat}
 use Rattle.model.specs.Nodes.{arguments_from, action_arity}
 use Rattle.model.specs.Trees.{Tree, call, when, choice, sum, action, delay, planted, grown, tree_of}
-
-abbrev pub Rises : ℕ → Shape → Type 0
-Rises n (Call p f) = Unit {0}
-Rises n (Condition x c) = n < c
-Rises n (Choice x y) = (n < x) × (n < y)
-Rises n (Sum v c) = n < c
-Rises n (Action a f v w c) = n < c
-Rises n (Delay r c) = n < c
-
-abbrev pub RisesFrom : ℕ → List Shape → Type 0
-RisesFrom i [] = Unit {0}
-RisesFrom i (k ∷ ks) = Rises i k × RisesFrom (suc i) ks
+use Rattle.source.specs.Nodes.{Rises, RisesFrom}
 
 module _ (g : Flat) where
   pub planted_same : (n : ℕ) (k : Shape) (f h : ℕ → Tree) → Rises n k → ((c : ℕ) → n < c → f c ≡ h c) → planted g n k f ≡ planted g n k h

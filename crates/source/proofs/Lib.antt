@@ -1,6 +1,8 @@
+pub mod Above
 pub mod Ascends
 pub mod Below
 pub mod Enumerate
+pub mod Flagged
 pub mod Flats
 pub mod FreeIs
 pub mod Grown

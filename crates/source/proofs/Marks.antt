@@ -3,16 +3,6 @@ use Rattle.std.proofs.Common.{◌≡◌, ℕ, ◌+◌, ◌-◌, ◌<◌, ◌≤�
 use Rattle.std.proofs.lemmas.Bool.{cases_eq, eq-eqb, ne_eqb, lt-ltb}
 use Rattle.model_rules.specs.Tallies.{one, total}
 use Rattle.model_rules.proofs.Firsts.{total_here}
-use Rattle.source.proofs.Below.{falses}
-
-pub marked : (flags : List Bool) (c n : ℕ) → c < length flags → get_or (set flags c true) n false ≡ (eqb c n || get_or flags n false)
-marked flags c n l = ⊎_elim
-    (λ (e : n ≡ c). ap (λ k. get_or (set flags c true) k false) e ∙ get_or-set_same flags c true false l ∙ sym (ap (λ b. b || get_or flags n false) (eq-eqb c n (sym e))))
-    (λ (e : n ≡ c → ⊥). get_or-set_other flags c n true false e ∙ sym (ap (λ b. b || get_or flags n false) (ne_eqb c n (λ z. e (sym z)))))
-    (cases_eq n c)
-
-pub unmarked : (flags : List Bool) (c n : ℕ) → length flags ≤ c → n < length flags → get_or flags n false ≡ (eqb c n || get_or flags n false)
-unmarked flags c n l m = sym (ap (λ b. b || get_or flags n false) (ne_eqb c n (λ z. omega (arith, z))))
 
 hit_or : (b : Bool) (r : ℕ) → ltb 0 (one b + r) ≡ (b || ltb 0 r)
 hit_or true r = lt-ltb 0 (1 + r) (omega arith)
@@ -41,5 +31,5 @@ module _ (hit : ℕ → Bool) (k : ℕ) where
   pub marks_end : (i : ℕ) (f all : Bool) → k ≤ i → (f || ahead i) ≡ all → f ≡ all
   marks_end i f all l h = let q : k - i ≡ 0 = omega arith in sym (or_false f) ∙ sym (ap (λ m. f || ltb 0 (total (λ j. one (hit j)) m i)) q) ∙ h
 
-  pub marks_start : (n : ℕ) → (get_or (replicate 256 false) n false || ahead 0) ≡ ltb 0 (total (λ j. one (hit j)) k 0)
-  marks_start n = let q : k - 0 ≡ k = omega arith in ap (λ b. b || ahead 0) (falses 256 n) ∙ ap (λ m. ltb 0 (total (λ j. one (hit j)) m 0)) q
+  pub marks_start : (f : Bool) → f ≡ false → (f || ahead 0) ≡ ltb 0 (total (λ j. one (hit j)) k 0)
+  marks_start f z = let q : k - 0 ≡ k = omega arith in ap (λ b. b || ahead 0) z ∙ ap (λ m. ltb 0 (total (λ j. one (hit j)) m 0)) q

@@ -1,5 +1,5 @@
 -- Bodies, children and calls, as a model hands them out and as its file has them.
-use Rattle.std.proofs.Common.{◌≡◌, ℕ, zero, suc, ◌+◌, ◌<◌, ◌≤◌, true, false, cond, eqb, List, get_or, is_ok, Some, None, Option, sym, refl, ap, ◌∙◌, ap₂, ⊎_elim, arith}
+use Rattle.std.proofs.Common.{◌≡◌, ℕ, zero, suc, ◌+◌, ◌<◌, ◌≤◌, Bool, ◌||◌, true, false, cond, eqb, List, get_or, is_ok, Some, None, Option, sym, refl, ap, ◌∙◌, ap₂, ⊎_elim, arith}
 use Rattle.std.specs.List.{slice_get}
 use Rattle.std.proofs.lemmas.Bool.{cases_Bool}
 use Rattle.model_file.specs.declared.layout.Layout.{Layout}
@@ -72,3 +72,9 @@ module _ (bs : List ℕ) (lawful : is_ok (judged bs) ≡ true) where
         (λ (a : resting bs l n ≡ false). h n low ∙ ap (λ b. cond b (Some (counter_of (suc (lower (resting bs l) n)))) None) a)
         (cases_Bool (resting bs l n));
   }
+
+pub or_swapped : (a b : Bool) → (a || b) ≡ (b || a)
+or_swapped true true = refl
+or_swapped true false = refl
+or_swapped false true = refl
+or_swapped false false = refl

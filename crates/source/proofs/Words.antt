@@ -26,20 +26,3 @@ words_back es =
     let n : length (bytes_of es) / 2 ≡ length es = omega (arith, byte_count es) in
     ap (λ k. map (λ i. word_at (bytes_of es) (2 * i)) (range_with_len 0 k)) n
     ∙ ext_get_or 0 _ es (length-map-range_with_len _ 0 (length es)) (λ i l. get_or-map-range_with_len (λ i. word_at (bytes_of es) (2 * i)) 0 (length es) i i 0 (omega (arith, length-map-range_with_len (λ i. word_at (bytes_of es) (2 * i)) 0 (length es))) (omega arith) ∙ word_back es i)
-
--- expressions one after the other, the first of them number i of n
-module _ (L : Meaning) (f : ℕ → ℕ) (x n i : ℕ) (b : Bool) where
-  abbrev rest : ℕ → Bool
-  rest k = named_in L (map f (range_with_len k (n - k))) x
-
-  step : i < n → rest i ≡ (L.names (f i) x || rest (i + 1))
-  step l = let q : n - i ≡ suc (n - (i + 1)) = omega arith in ap (λ k. named_in L (map f (range_with_len i k)) x) q
-
-  pub names_on : i < n → false ≡ L.names (f i) x → rest i ≡ b → rest (i + 1) ≡ b
-  names_on l z h = ap (λ t. t || rest (i + 1)) z ∙ sym (step l) ∙ h
-
-  pub names_found : i < n → true ≡ L.names (f i) x → rest i ≡ b → true ≡ b
-  names_found l z h = ap (λ t. t || rest (i + 1)) z ∙ sym (step l) ∙ h
-
-  pub names_none : n ≤ i → rest i ≡ b → false ≡ b
-  names_none l h = let q : n - i ≡ 0 = omega arith in sym (ap (λ k. named_in L (map f (range_with_len i k)) x) q) ∙ h

@@ -5,14 +5,13 @@
 --     FreeAt L t x   in words: some node from there down uses an expression that names x, and none there binds x
 --     FreeMeans      free is FreeAt
 use Rattle.std.specs.Prelude.{◌≡◌, ℕ, Bool, true, false, not, ◌&&◌, ◌||◌, ◌⊎◌, List, [], ◌∷◌, Some, ◌==◌}
-use Rattle.std.specs.List.{slice_get}
+use Rattle.std.specs.List.{slice_get, list_any}
 use Rattle.language.specs.Meanings.{Meaning}
 use Rattle.model.specs.Trees.{Tree, call, when, choice, sum, action, delay}
 
 module _ (L : Meaning) where
   abbrev pub named_in : List ℕ → ℕ → Bool
-  named_in [] x = false
-  named_in (e ∷ es) x = L.names e x || named_in es x
+  named_in es x = list_any (λ e. L.names e x) es
 
   -- The tree from there down names x; binds x.
   abbrev pub named : Tree → ℕ → Bool

@@ -8,3 +8,4 @@ pub mod Published
 pub mod Rules
 pub mod Sound
 pub mod Terms
+pub mod Sets

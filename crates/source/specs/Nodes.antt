@@ -3,11 +3,15 @@
 --     own_names L v x   the node uses an expression that names x
 --     own_binds v x     it binds x
 --     any_child p v     one of its children has p
---     named_by, bound_by whether its tree names or binds x, where its children's do as told; where there is no node, not
-use Rattle.std.specs.Prelude.{ℕ, ◌*◌, ◌/◌, Bool, false, ◌||◌, List, map, length, Some, None, Option, ◌==◌}
+--     carried_by q p o  the node o itself has q, or one of its children has p; where there is no node, not
+--     Rises n k         the children of the shape k at node n are higher
+--     RisesFrom i ks    so they are in each of the shapes, the first of them at node i
+use Rattle.std.specs.Prelude.{ℕ, suc, ◌*◌, ◌/◌, ◌<◌, Bool, false, ◌||◌, List, [], ◌∷◌, map, length, Some, None, Option, ◌==◌}
 use Rattle.std.specs.List.{range_with_len}
 use Rattle.words.specs.Words.{word_at}
 use Rattle.language.specs.Meanings.{Meaning}
+use Rattle.model_rules.specs.declared.shape.Shape.{Shape}
+use Rattle.model_rules.specs.declared.shape.Shape.TheVariants.{Call, Condition, Choice, Sum, Action, Delay}
 use Rattle.model.specs.Nodes.{NodeValue, call, condition, choice, sum, action, delay}
 use Rattle.source.specs.Free.{named_in}
 
@@ -38,10 +42,18 @@ any_child p (sum v c) = p c
 any_child p (action a bs v w c) = p c
 any_child p (delay r c) = p c
 
-abbrev pub named_by : Meaning → ℕ → (ℕ → Bool) → Option NodeValue → Bool
-named_by L x p None = false
-named_by L x p (Some v) = own_names L v x || any_child p v
+abbrev pub carried_by : (NodeValue → Bool) → (ℕ → Bool) → Option NodeValue → Bool
+carried_by q p None = false
+carried_by q p (Some v) = q v || any_child p v
 
-abbrev pub bound_by : ℕ → (ℕ → Bool) → Option NodeValue → Bool
-bound_by x p None = false
-bound_by x p (Some v) = own_binds v x || any_child p v
+abbrev pub Rises : ℕ → Shape → Type 0
+Rises n (Call p f) = Unit {0}
+Rises n (Condition x c) = n < c
+Rises n (Choice x y) = (n < x) × (n < y)
+Rises n (Sum v c) = n < c
+Rises n (Action a f v w c) = n < c
+Rises n (Delay r c) = n < c
+
+abbrev pub RisesFrom : ℕ → List Shape → Type 0
+RisesFrom i [] = Unit {0}
+RisesFrom i (k ∷ ks) = Rises i k × RisesFrom (suc i) ks

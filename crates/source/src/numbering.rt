@@ -8,7 +8,7 @@ ghost use Rattle.source.specs.Counters.{counter_at, Counts};
 use crate::places::place_nodes;
 use model::Model;
 
-#[derive(Clone, Copy)]
+#[derive(Clone, Copy, Debug, PartialEq, Eq)]
 pub struct Counter(pub u16);
 
 // The program counter of each node that is a resting place; the others have none.
@@ -18,12 +18,12 @@ pub fn counters(model: &Model) -> [Option<Counter>; 256]
 {
     let places = place_nodes(model);
     let mut counters: [Option<Counter>; 256] = [None; 256];
-    let mut next: u16 = 1;
-    for node in 0..256usize {
-        if !places[node] {
+    let mut next = 1;
+    for (node, counter) in counters.iter_mut().enumerate() {
+        if !places.flags[node] {
             continue;
         }
-        counters[node] = Some(Counter(next));
+        *counter = Some(Counter(next));
         next += 1;
     }
     counters
