@@ -1,9 +1,8 @@
--- Some number below n, some expression of a list. Assumes nothing.
+-- Some number below n. Assumes nothing.
 use Rattle.std.proofs.Common.{◌≡◌, ℕ, zero, suc, ◌+◌, ◌-◌, ◌<◌, ◌≤◌, Bool, true, false, ◌||◌, map, sym, refl, ap, ◌∙◌, ⊎_elim, add-one, arith}
 use Rattle.std.specs.List.{range_with_len}
 use Rattle.std.proofs.lemmas.Bool.{cases_eq, or_parts, or_from}
 use Rattle.fit.specs.Scopes.{any_below}
-use Rattle.fit.specs.Uses.{any_of}
 
 module _ (f : ℕ → Bool) where
   pub below_zero : any_below f 0 ≡ false
@@ -38,20 +37,3 @@ module _ (f : ℕ → Bool) where
       (λ (e : k ≡ n). ap (λ b. f n || b) (below_none n (λ i m. h i (omega arith) (λ z. omega (arith, z)))) ∙ or_false (f n) ∙ sym (ap f e))
       (λ (e : k ≡ n → ⊥). ap (λ b. b || any_below f n) (h n (omega arith) (λ z. e (sym z))) ∙ below_only n k (omega (arith, e)) (λ i m. h i (omega arith)))
       (cases_eq k n)
-
--- expressions one after the other, the first of them number i of n
-module _ (p : ℕ → Bool) (f : ℕ → ℕ) (n i : ℕ) (b : Bool) where
-  abbrev rest : ℕ → Bool
-  rest k = any_of p (map f (range_with_len k (n - k)))
-
-  step : i < n → rest i ≡ (p (f i) || rest (i + 1))
-  step l = let q : n - i ≡ suc (n - (i + 1)) = omega arith in ap (λ k. any_of p (map f (range_with_len i k))) q
-
-  pub any_on : i < n → p (f i) ≡ false → rest i ≡ b → rest (i + 1) ≡ b
-  any_on l z h = sym (ap (λ t. t || rest (i + 1)) z) ∙ sym (step l) ∙ h
-
-  pub any_found : i < n → p (f i) ≡ true → rest i ≡ b → true ≡ b
-  any_found l z h = sym (ap (λ t. t || rest (i + 1)) z) ∙ sym (step l) ∙ h
-
-  pub any_none : n ≤ i → rest i ≡ b → false ≡ b
-  any_none l h = let q : n - i ≡ 0 = omega arith in sym (ap (λ k. any_of p (map f (range_with_len i k))) q) ∙ h

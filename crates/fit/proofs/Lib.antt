@@ -1,5 +1,4 @@
 pub mod Any
-pub mod Flagged
 pub mod Words
 pub mod Handing
 pub mod Used

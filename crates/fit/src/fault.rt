@@ -4,7 +4,7 @@ ghost use Rattle.fit.specs.Faults.{code_of};
 
 use model_file::FaultCode;
 
-#[derive(Clone, Copy)]
+#[derive(Clone, Copy, Debug, PartialEq, Eq)]
 pub enum FitFault {
     // the node uses an expression that the language does not have
     Expression(u16),

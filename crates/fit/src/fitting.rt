@@ -1,9 +1,10 @@
 // Fitting a language to a model, node by node from 0 up.
-ghost use Rattle.std.specs.Prelude.{◌≡◌, ℕ, ◌<◌, false, ◌||◌, length, Ok, slice_index_or};
+ghost use Rattle.std.specs.Prelude.{◌≡◌, ℕ, ◌<◌, ◌||◌, Ok};
 ghost use Rattle.words.specs.Headers.{Iff};
 ghost use Rattle.model.specs.Flat.{flat};
 ghost use Rattle.model.specs.Nodes.{node_in};
 ghost use Rattle.source.specs.Models.{model_of};
+ghost use Rattle.source.specs.Sets.{has};
 ghost use Rattle.source.specs.Sound.{Fits};
 ghost use Rattle.fit.specs.Fitting.{beyond_at, strays_at, stray_at, fit_of};
 ghost use Rattle.fit.specs.InWords.{Suits};
@@ -11,10 +12,11 @@ ghost use Rattle.fit.specs.Scopes.{in_node};
 ghost use Rattle.fit.specs.Uses.{strays};
 
 use crate::fault::FitFault;
-use crate::scope::{mark, scope_nodes};
+use crate::scope::scope_nodes;
 use crate::uses::{names_stray, uses_beyond};
 use language::Language;
 use model::Model;
+use source::NodeSet;
 
 // Expressions name variables below this only.
 const VARIABLES: u16 = 16;
@@ -43,30 +45,29 @@ fn strays_here<L: Language>(
     }
 }
 
-// Flags the nodes at which a variable is named out of scope.
-fn mark_strays<L: Language>(model: &Model, language: &L, variable: u16, flags: &mut [bool])
-    ensures leaves { (k : ℕ) → k < length flags.old → k < 256 → slice_index_or flags.new k false ≡ (strays_at (L.Language.meaning language.now) (flat model.now.bytes.now) k variable || slice_index_or flags.old k false) }
+// Adds the nodes at which a variable is named out of scope.
+fn add_strays<L: Language>(model: &Model, language: &L, variable: u16, strays: &mut NodeSet)
+    ensures leaves { (k : ℕ) → k < 256 → has strays.new k ≡ (strays_at (L.Language.meaning language.now) (flat model.now.bytes.now) k variable || has strays.old k) }
 {
     let scope = scope_nodes(model, variable);
-    for node in 0..256u16 {
-        let here = scope[node as usize];
-        let stray = strays_here(model, language, variable, node, here);
+    for node in 0..256 {
+        let stray = strays_here(model, language, variable, node, scope.contains(node));
         if !stray {
             continue;
         }
-        mark(flags, node);
+        strays.insert(node);
     }
 }
 
 // The nodes at which some variable is named out of scope.
-fn stray_nodes<L: Language>(model: &Model, language: &L) -> [bool; 256]
-    ensures answer { (k : ℕ) → k < 256 → slice_index_or result k false ≡ stray_at (L.Language.meaning language.now) (flat model.now.bytes.now) k }
+fn stray_nodes<L: Language>(model: &Model, language: &L) -> NodeSet
+    ensures answer { (k : ℕ) → k < 256 → has result k ≡ stray_at (L.Language.meaning language.now) (flat model.now.bytes.now) k }
 {
-    let mut flags = [false; 256];
+    let mut strays = NodeSet::empty();
     for variable in 0..VARIABLES {
-        mark_strays(model, language, variable, &mut flags);
+        add_strays(model, language, variable, &mut strays);
     }
-    flags
+    strays
 }
 
 // Whether every expression that a node uses is below the language's count and names only variables in scope.
@@ -79,12 +80,11 @@ pub fn fits<L: Language>(model: &Model, language: &L) -> Result<(), FitFault>
 {
     let strays = stray_nodes(model, language);
     let expressions = language.count();
-    let nodes = model.node_count();
-    for node in 0..nodes {
+    for node in 0..model.node_count() {
         if beyond_at(model, expressions, node) {
             return Err(FitFault::Expression(node));
         }
-        if strays[node as usize] {
+        if strays.contains(node) {
             return Err(FitFault::Variable(node));
         }
     }
