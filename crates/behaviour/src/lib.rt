@@ -7,13 +7,11 @@ ghost use Rattle.behaviour.specs.Behaves.{Counted};
 ghost use Rattle.behaviour.specs.Theorem.{EquationBehaves};
 
 // The theorems.
-pub fn behaves() -> u8
+pub fn behaves()
     ensures keeps { Keeps }
     ensures counted { Counted }
     ensures accepts { Accepts }
     ensures nodes { ByNodes }
     ensures behaves { BehavesOverSides }
     ensures equation { EquationBehaves }
-{
-    0
-}
+{}

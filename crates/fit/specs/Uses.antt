@@ -2,7 +2,7 @@
 --     uses_beyond n v     the node v uses an expression from n up
 --     strays L x here v   the node v uses an expression that names x, which is not in scope; `here` says whether x is in scope at v.
 --                         An action's own variable is in scope for its weight, but not for its arguments
-use Rattle.std.specs.Prelude.{ℕ, Bool, false, not, ◌&&◌, ◌||◌, nat_le, List, [], ◌∷◌, ◌==◌}
+use Rattle.std.specs.Prelude.{ℕ, Bool, false, not, ◌&&◌, ◌||◌, nat_le, ◌==◌}
 use Rattle.std.specs.List.{list_any}
 use Rattle.language.specs.Meanings.{Meaning}
 use Rattle.model.specs.Nodes.{NodeValue, call, condition, choice, sum, action, delay}

@@ -9,7 +9,7 @@ use Rattle.words.specs.Words.{bytes_of}
 use Rattle.model.specs.Flat.{Flat}
 use Rattle.model.specs.Nodes.{NodeValue, value_in, node_in, condition, choice, sum, action, delay, arguments_from, action_arity}
 use Rattle.model.specs.Trees.{Tree, call, tree_of}
-use Rattle.source.specs.Nodes.{any_child, carried_by, Rises, RisesFrom}
+use Rattle.source.specs.Nodes.{carried_by, Rises, RisesFrom}
 use Rattle.source.specs.Sets.{has}
 use Rattle.source.specs.declared.set.NodeSet.{NodeSet}
 use Rattle.source.proofs.Below.{rises_at}

@@ -1,12 +1,10 @@
 -- Words written as bytes and read again.
-use Rattle.std.proofs.Common.{◌≡◌, ℕ, zero, suc, ◌+◌, ◌-◌, ◌*◌, ◌/◌, ◌%◌, ◌<◌, ◌≤◌, Bool, true, false, ◌||◌, List, [], ◌∷◌, map, length, get_or, sym, refl, ap, ◌∙◌, ap₂, mul-suc, arith}
+use Rattle.std.proofs.Common.{◌≡◌, ℕ, zero, suc, ◌+◌, ◌*◌, ◌/◌, ◌%◌, List, [], ◌∷◌, map, length, get_or, refl, ap, ◌∙◌, ap₂, mul-suc, arith}
 use Rattle.std.specs.List.{range_with_len}
 use Rattle.std.proofs.lemmas.List.{ext_get_or}
 use Rattle.std.proofs.lemmas.List.FromFn.{length-map-range_with_len, get_or-map-range_with_len}
 use Rattle.words.specs.Words.{word_at}
-use Rattle.language.specs.Meanings.{Meaning}
 use Rattle.words.specs.Words.{bytes_of}
-use Rattle.source.specs.Free.{named_in}
 use Rattle.source.specs.Nodes.{words_in}
 
 byte_count : (es : List ℕ) → length (bytes_of es) ≡ 2 * length es

@@ -4,7 +4,7 @@
 --     free L t x     it names x and does not bind it
 --     FreeAt L t x   in words: some node from there down uses an expression that names x, and none there binds x
 --     FreeMeans      free is FreeAt
-use Rattle.std.specs.Prelude.{◌≡◌, ℕ, Bool, true, false, not, ◌&&◌, ◌||◌, ◌⊎◌, List, [], ◌∷◌, Some, ◌==◌}
+use Rattle.std.specs.Prelude.{◌≡◌, ℕ, Bool, true, false, not, ◌&&◌, ◌||◌, ◌⊎◌, List, Some, ◌==◌}
 use Rattle.std.specs.List.{slice_get, list_any}
 use Rattle.language.specs.Meanings.{Meaning}
 use Rattle.model.specs.Trees.{Tree, call, when, choice, sum, action, delay}

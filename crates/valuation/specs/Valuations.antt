@@ -5,7 +5,7 @@
 --     holds L e ρ           the condition e holds under ρ: its value is not 0
 --     spread sizes xs k ρ   k under ρ for all values of the variables xs, the first slowest
 --     listed v              the values that a valuation of the program has
-use Rattle.std.specs.Prelude.{ℕ, ◌-◌, min, Bool, true, not, ◌&&◌, List, [], ◌∷◌, map, length, take, ◌==◌, slice_index, slice_set}
+use Rattle.std.specs.Prelude.{ℕ, ◌-◌, min, Bool, not, List, [], ◌∷◌, map, length, take, ◌==◌, slice_index, slice_set}
 use Rattle.std.specs.List.{range_with_len, flat_map, list_all}
 use Rattle.language.specs.Meanings.{Meaning}
 use Rattle.valuation.specs.declared.valuation.Valuation.{Valuation}

@@ -1,10 +1,8 @@
 -- What the tree of a frame gives, and the work left in it, as a sum goes on.
-use Rattle.std.proofs.Common.{◌≡◌, ℕ, zero, suc, ◌+◌, ◌-◌, ◌<◌, ◌≤◌, ◌≢◌, List, [], ◌++◌, length, get_or, set, sym, refl, ap, ◌∙◌, subst, ap₂, ⊎_elim, add-one, arith, length-set, get_or-set_other, get_or-set_same}
+use Rattle.std.proofs.Common.{◌≡◌, ℕ, zero, suc, ◌+◌, ◌-◌, ◌<◌, ◌≤◌, List, [], ◌++◌, get_or, set, sym, refl, ap, ◌∙◌, arith}
 use Rattle.std.specs.List.{range_with_len, flat_map}
-use Rattle.std.proofs.lemmas.Bool.{cases_eq}
 use Rattle.language.specs.Meanings.{Meaning}
-use Rattle.ways.specs.declared.frames.Frame.{Frame}
-use Rattle.ways.specs.Trees.{Tree, dead, when, choice, sum, leaf, most_frames}
+use Rattle.ways.specs.Trees.{Tree, dead, when, choice, sum, leaf}
 use Rattle.ways.specs.Leaves.{leaves}
 use Rattle.ways.specs.Stacks.{leaves_from, rounds, work, work_from}
 

@@ -1,6 +1,5 @@
 -- A turn that puts two frames on.
-use Rattle.std.proofs.Common.{◌≡◌, ℕ, ◌+◌, ◌<◌, List, [], ◌∷◌, ◌++◌, get_or, set, None, reverse, sum_by, sym, ap, ◌∙◌, ap₂, subst, append_assoc, arith}
-use Rattle.std.specs.List.{flat_map}
+use Rattle.std.proofs.Common.{◌≡◌, ℕ, ◌+◌, ◌<◌, List, [], ◌∷◌, ◌++◌, get_or, set, None, sym, ap, ◌∙◌, ap₂, subst, append_assoc, arith}
 use Rattle.std.proofs.lemmas.List.{reverse-append}
 use Rattle.std.proofs.lemmas.List.Sums.{sum_by-append}
 use Rattle.std.proofs.lemmas.Grind.{flat_map-append, common_steps}
@@ -9,7 +8,7 @@ use Rattle.valuation.specs.Valuations.{listed}
 use Rattle.valuation.specs.declared.valuation.Valuation.{Valuation}
 use Rattle.ways.specs.declared.frames.Frame.{Frame}
 use Rattle.ways.specs.Trees.{Tree, choice, sum}
-use Rattle.ways.specs.Leaves.{Leaf, leaves}
+use Rattle.ways.specs.Leaves.{Leaf}
 use Rattle.ways.specs.Stacks.{leaves_from, frame_leaves, remaining, work_from, frame_work, work_left, Turned}
 use Rattle.ways.proofs.Stacks.{from_zero, sum_on, work_zero, work_on}
 

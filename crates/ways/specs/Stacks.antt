@@ -8,7 +8,7 @@ use Rattle.valuation.specs.declared.valuation.Valuation.{Valuation}
 use Rattle.ways.specs.declared.branch.Found.{Found}
 use Rattle.ways.specs.declared.frames.Frame.{Frame}
 use Rattle.ways.specs.Leaves.{Leaf, leaves, leaf_of}
-use Rattle.ways.specs.Trees.{Tree, dead, when, choice, sum, leaf, most_frames}
+use Rattle.ways.specs.Trees.{Tree, dead, when, choice, sum, leaf}
 
 -- leaves, where a sum begins at the value v
 module _ (L : Meaning) (sizes : List ℕ) where

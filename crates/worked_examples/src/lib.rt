@@ -3,8 +3,6 @@
 
 ghost use Rattle.worked_examples.specs.Examples.{Worked};
 
-pub fn worked_examples() -> u8
+pub fn worked_examples()
     ensures examples { Worked }
-{
-    0
-}
+{}

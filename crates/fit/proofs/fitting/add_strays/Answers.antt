@@ -1,4 +1,4 @@
-use Rattle.std.proofs.Common.{◌≡◌, ◌<◌, true, false, ◌||◌, eqb, length, get_or, sym, ap, ◌∙◌, arith}
+use Rattle.std.proofs.Common.{◌≡◌, true, false, ◌||◌, eqb, sym, ap, ◌∙◌, arith}
 use Rattle.model.specs.Flat.{flat}
 use Rattle.model.specs.Nodes.{node_in}
 use Rattle.source.specs.Sets.{has}

@@ -1,4 +1,4 @@
-use Rattle.std.proofs.Common.{◌≡◌, ◌-◌, ◌<◌, length, sym, ap, ◌∙◌, arith}
+use Rattle.std.proofs.Common.{◌≡◌, ◌-◌, ◌<◌, length, ap, ◌∙◌, arith}
 use Rattle.model.specs.Flat.{flat}
 use Rattle.source.proofs.Flats.{few_nodes, node_number}
 use Rattle.fit.specs.Fitting.{beyond_at, fault_from}

@@ -1,4 +1,4 @@
-use Rattle.std.proofs.Common.{◌≡◌, ◌||◌, sym, refl, ap, ◌∙◌, arith}
+use Rattle.std.proofs.Common.{◌≡◌, ◌||◌, sym, ap, ◌∙◌, arith}
 use Rattle.model.specs.Flat.{flat}
 use Rattle.fit.specs.Fitting.{strays_at}
 use Rattle.fit.specs.Scopes.{any_below}

@@ -1,4 +1,4 @@
-use Rattle.std.proofs.Common.{◌≡◌, ltb, sym, refl, ap, ◌∙◌, arith}
+use Rattle.std.proofs.Common.{◌≡◌, ltb, sym, ap, ◌∙◌, arith}
 use Rattle.model_file.specs.Fields.{node_count}
 use Rattle.model_file.specs.Layouts.{layout_of}
 use Rattle.model_rules.specs.Tallies.{one, total}
