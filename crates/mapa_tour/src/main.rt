@@ -1,7 +1,7 @@
 // Every verb of `mapa` on built-in examples, so that one run shows them all.
 #![tactic(auto)]
 
-use report::{DataLanguage, Verb, run};
+use report::{DataLanguage, ReportFault, Verb, run};
 use std::io::Write;
 
 // A queue of at most two: its length, the limit 2, whether there is room, 1, one more, and its rate 3.
@@ -37,8 +37,11 @@ const QUEUE_MODEL: &[u8; 67] = b"\x01\x00\x00\x00\x3e\
 
 fn show(rt: &HostRuntime, title: &str, verb: Verb, input: &[u8]) -> anyhow::Result<()> {
     println!(rt; "{title}")?;
-    let report = run(verb, input, rt.alloc())?;
-    rt.stdout().write_all(report.text.as_bytes())?;
+    match run(verb, input, rt.alloc()) {
+        Ok(text) => rt.stdout().write_all(text.as_bytes())?,
+        Err(ReportFault::Refused(refusal)) => print!(rt; "{refusal}")?,
+        Err(ReportFault::OutOfMemory(error)) => return Err(error.into()),
+    }
     Ok(())
 }
 

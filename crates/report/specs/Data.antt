@@ -1,11 +1,11 @@
 -- What `mapa data` writes: a heading, then a line for each expression, `EXPRESSION VALUE NAMES..`,
 -- the value with all variables 0 and each variable that is named behind a space; or the line of a refusal.
-use Rattle.std.specs.Prelude.{ℕ, zero, suc, Bool, true, false, cond, List, [], ◌++◌, Ok, Err, codes, decimal, Result}
-use Rattle.language.specs.Faults.{number_of, record_of}
+use Rattle.std.specs.Prelude.{ℕ, zero, suc, Bool, cond, List, [], ◌++◌, Ok, Err, codes, decimal, Result}
 use Rattle.language.specs.Meanings.{Meaning}
 use Rattle.language.specs.declared.fault.DataFault.{DataFault}
-use Rattle.report.specs.Refusals.{space, newline, refused_text}
-use Rattle.report.specs.declared.refusal.Stage.TheVariants as stage
+use Rattle.report.specs.Refusals.{space, newline}
+use Rattle.report.specs.declared.refusal.Refusal.{Refusal}
+use Rattle.report.specs.declared.refusal.Refusal.TheVariants.{Data}
 
 abbrev pub name_text : (ℕ → Bool) → ℕ → List ℕ
 name_text named x = cond (named x) (space ++ decimal x) []
@@ -23,10 +23,7 @@ abbrev pub lines_below : Meaning → ℕ → List ℕ
 lines_below l zero = codes "expression value names" ++ newline
 lines_below l (suc n) = lines_below l n ++ line_of l n
 
-abbrev pub data_text : Result Meaning DataFault → List ℕ
-data_text (Ok l) = lines_below l l.count
-data_text (Err x) = refused_text (record { stage = stage.Data; number = number_of x; section = 0; «record» = record_of x })
-
-abbrev pub refuses : {X Y : Type 0} → Result X Y → Bool
-refuses (Ok x) = false
-refuses (Err y) = true
+-- of a file that gives this language, or is refused
+abbrev pub data_told : Result Meaning DataFault → Result (List ℕ) Refusal
+data_told (Ok l) = Ok (lines_below l l.count)
+data_told (Err x) = Err (Data x)

@@ -1,13 +1,12 @@
 -- What `mapa model` writes: lines of a name and a number each, or the line of a refusal.
 use Rattle.std.specs.Prelude.{ℕ, List, ◌++◌, length, Ok, Err, codes, decimal, Result}
 use Rattle.model.specs.Flat.{Flat, footprint_of}
-use Rattle.model_file.specs.Faults.{code_of}
-use Rattle.model_file.specs.declared.fault.FaultCode.{FaultCode}
 use Rattle.model_file.specs.declared.fault.ModelFault.{ModelFault}
 use Rattle.report.specs.Kinds.{kinds_below}
-use Rattle.report.specs.Refusals.{space, newline, refused_text}
+use Rattle.report.specs.Refusals.{space, newline}
 use Rattle.report.specs.declared.kinds.Kinds.{Kinds}
-use Rattle.report.specs.declared.refusal.Stage.TheVariants as stage
+use Rattle.report.specs.declared.refusal.Refusal.{Refusal}
+use Rattle.report.specs.declared.refusal.Refusal.TheVariants.{Model}
 
 abbrev pub line_text : List ℕ → ℕ → List ℕ
 line_text name n = name ++ space ++ decimal n ++ newline
@@ -31,10 +30,7 @@ kinds_text k =
 abbrev pub summary_text : Flat → List ℕ
 summary_text g = parts_text g ++ kinds_text (kinds_below g (length g.nodes)) ++ line_text (codes "footprint") (footprint_of g)
 
-abbrev pub code_text : FaultCode → List ℕ
-code_text c = refused_text (record { stage = stage.Model; number = c.number; section = c.section; «record» = c.«record» })
-
 -- of a file that was judged so
-abbrev pub model_text : Result (Unit {0}) ModelFault → Flat → List ℕ
-model_text (Ok u) g = summary_text g
-model_text (Err e) g = code_text (code_of e)
+abbrev pub model_told : Result (Unit {0}) ModelFault → Flat → Result (List ℕ) Refusal
+model_told (Ok u) g = Ok (summary_text g)
+model_told (Err x) g = Err (Model x)

@@ -5,8 +5,7 @@ mod data;
 mod kinds;
 mod refusal;
 mod summary;
-mod text;
 mod verb;
 
-pub use refusal::Report;
+pub use refusal::{Refusal, ReportFault};
 pub use verb::{DataLanguage, Verb, run};

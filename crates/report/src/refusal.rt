@@ -1,54 +1,69 @@
-// What a program writes, and the line that says why an input is refused.
-ghost use Rattle.std.specs.Prelude.{◌≡◌, IfOk, string_bytes};
-ghost use Rattle.report.specs.Refusals.{refused_text, stage_text};
+// Why an input is refused, and the line that says so.
+ghost use Rattle.std.specs.Prelude.{◌≡◌, Some};
+ghost use Rattle.report.specs.Refusals.{refusal_text, of_data, of_model, of_memory};
 
-use crate::text::put_number;
-use std::alloc::{AllocError, Global};
+use language::DataFault;
+use model_file::ModelFault;
+use std::alloc::AllocError;
+use std::fmt;
 
-// What a program writes, and whether it is a refusal, which ends it with status 1.
-#[derive(Drop)]
-pub struct Report {
-    pub text: String,
-    pub refused: bool,
+// The file that was refused, and its fault.
+#[derive(Clone, Copy, Debug, PartialEq, Eq)]
+pub enum Refusal {
+    Model(ModelFault),
+    Data(DataFault),
 }
 
-// What was refused.
-#[derive(Clone, Copy)]
-pub(crate) enum Stage {
-    Model,
-    Data,
-}
+// The line `refused STAGE NUMBER SECTION RECORD`; the records of a data file are in no section.
+impl fmt::Display for Refusal {
+    ghost output = { λ refusal. Some (refusal_text refusal) };
 
-// Where and why it was refused.
-#[derive(Clone, Copy)]
-pub(crate) struct Refused {
-    pub(crate) stage: Stage,
-    pub(crate) number: u16,
-    pub(crate) section: u16,
-    pub(crate) record: u16,
-}
-
-fn stage_word(stage: Stage) -> &'static str
-    ensures answer { result.now ≡ stage_text stage }
-{
-    match stage {
-        Stage::Model => "model",
-        Stage::Data => "data",
+    fn fmt<W: fmt::Write>(&self, f: &mut fmt::Formatter<W>) -> fmt::Result {
+        match *self {
+            Refusal::Model(fault) => {
+                let code = fault.code();
+                let number = code.number;
+                let section = code.section;
+                let record = code.record;
+                writeln!(f, "refused model {number} {section} {record}")
+            }
+            Refusal::Data(fault) => {
+                let number = fault.number();
+                let record = fault.record();
+                writeln!(f, "refused data {number} 0 {record}")
+            }
+        }
     }
 }
 
-// The line `refused STAGE NUMBER SECTION RECORD`.
-pub(crate) fn refusal_line(refused: Refused, heap: Global) -> Result<String, AllocError>
-    ensures answer { IfOk result (λ s. string_bytes s ≡ refused_text refused) }
-{
-    let mut text = String::from_str(heap, "refused ")?;
-    text.push_str(stage_word(refused.stage))?;
-    text.push_str(" ")?;
-    put_number(&mut text, refused.number as u64, heap)?;
-    text.push_str(" ")?;
-    put_number(&mut text, refused.section as u64, heap)?;
-    text.push_str(" ")?;
-    put_number(&mut text, refused.record as u64, heap)?;
-    text.push_str("\n")?;
-    Ok(text)
+// Why there is no text.
+#[derive(Clone, Copy, Debug, PartialEq, Eq)]
+pub enum ReportFault {
+    // the input is refused, which ends a program with status 1
+    Refused(Refusal),
+    OutOfMemory(AllocError),
+}
+
+impl From<DataFault> for ReportFault {
+    ghost from_gives = { λ x y. y ≡ of_data x };
+
+    fn from(fault: DataFault) -> ReportFault {
+        ReportFault::Refused(Refusal::Data(fault))
+    }
+}
+
+impl From<ModelFault> for ReportFault {
+    ghost from_gives = { λ x y. y ≡ of_model x };
+
+    fn from(fault: ModelFault) -> ReportFault {
+        ReportFault::Refused(Refusal::Model(fault))
+    }
+}
+
+impl From<AllocError> for ReportFault {
+    ghost from_gives = { λ x y. y ≡ of_memory x };
+
+    fn from(error: AllocError) -> ReportFault {
+        ReportFault::OutOfMemory(error)
+    }
 }

@@ -1,21 +1,22 @@
 // What the program `mapa` can be asked.
-ghost use Rattle.std.specs.Prelude.{◌≡◌, IfOk, string_bytes};
-ghost use Rattle.report.specs.Verbs.{verb_text, verb_refuses};
+ghost use Rattle.std.specs.Prelude.{◌≡◌, Ok, MatchResult, string_bytes};
+ghost use Rattle.report.specs.Refusals.{Refuses};
+ghost use Rattle.report.specs.Verbs.{verb_told};
 
 use crate::data::data_report;
-use crate::refusal::Report;
+use crate::refusal::ReportFault;
 use crate::summary::model_report;
 use formula::Formula;
-use std::alloc::{AllocError, Global};
+use std::alloc::Global;
 use table::Table;
 
-#[derive(Clone, Copy)]
+#[derive(Clone, Copy, Debug, PartialEq, Eq)]
 pub enum DataLanguage {
     Formula,
     Table,
 }
 
-#[derive(Clone, Copy)]
+#[derive(Clone, Copy, Debug, PartialEq, Eq)]
 pub enum Verb {
     // a data file: each expression, its value with all variables 0, the variables it names
     Data(DataLanguage),
@@ -23,10 +24,9 @@ pub enum Verb {
     Model,
 }
 
-// What a verb writes of its input.
-pub fn run(verb: Verb, input: &[u8], heap: Global) -> Result<Report, AllocError>
-    ensures answer { IfOk result (λ x. string_bytes x.text ≡ verb_text verb input.now) }
-    ensures refusal { IfOk result (λ x. x.refused ≡ verb_refuses verb input.now) }
+// What a verb tells of its input: a text, or the refusal of the input.
+pub fn run(verb: Verb, input: &[u8], heap: Global) -> Result<String, ReportFault>
+    ensures answer { MatchResult result (λ s. verb_told verb input.now ≡ Ok (string_bytes s)) (Refuses (verb_told verb input.now)) }
 {
     match verb {
         Verb::Data(DataLanguage::Formula) => data_report::<Formula>(input, heap),

@@ -2,8 +2,5 @@ use Rattle.std.proofs.Common.{string_bytes}
 use Rattle.report.proofs.Summed.{accepted}
 use Rattle.report.proofs.summary.model_report.Goals as goal
 
-pub returns-in_ok-summary-in-Ok : goal.returns-in_ok-summary-in-Ok
-returns-in_ok-summary-in-Ok c =
-    let made = c.in-Ok.ensures in
-    let both = accepted c.args.bytes.now c.open.result.bytes.now c.accept.new.into.bytes.now (string_bytes c.in_ok-summary-in-Ok.field-0) made.answer c.open.ensures.answer made.leaves c.in_ok-summary-in-Ok.ensures.answer in
-    record { answer = both.0; refusal = both.1 }
+pub returns : goal.returns
+returns c = record { answer = accepted c.args.bytes.now c.open.result.bytes.now c.accept.new.into.bytes.now (string_bytes c.in_ok-summary.field-0) c.in_ok-accept.ensures.answer c.open.ensures.answer c.in_ok-accept.ensures.leaves c.in_ok-summary.ensures.answer }

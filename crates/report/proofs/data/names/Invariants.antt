@@ -1,6 +1,0 @@
-use Rattle.std.proofs.Common.{◌≡◌, string_bytes}
-use Rattle.report.specs.Data.{names_below}
-use Rattle.report.proofs.data.names.Given as goal
-
-abbrev pub invariant-loop-variable : goal.invariant-loop-variable
-invariant-loop-variable g l = string_bytes l.text ≡ names_below ((g.L.Language.meaning l.language).names l.expression) l.variable
