@@ -14,20 +14,19 @@ pub(crate) fn file(heap: Global, words: &[u16]) -> Result<Vec<u8>, AllocError> {
     Ok(bytes)
 }
 
-// The number and record of the refusal of a file, or 0 and 0 where it is taken.
-pub(crate) fn verdict<L: FileLanguage + Drop>(bytes: &[u8]) -> (u16, u16) {
+// What filling a language from a file answers: a refusal by its number and record.
+pub(crate) fn verdict<L: FileLanguage + Drop>(bytes: &[u8]) -> Result<(), (u16, u16)> {
     let mut language = L::empty();
-    match language.fill(bytes) {
-        Ok(()) => (0, 0),
-        Err(fault) => (fault.number(), fault.record()),
-    }
+    language
+        .fill(bytes)
+        .map_err(|fault| (fault.number(), fault.record()))
 }
 
 // The same of the file of some words.
 pub(crate) fn words_verdict<L: FileLanguage + Drop>(
     heap: Global,
     words: &[u16],
-) -> Result<(u16, u16), AllocError> {
+) -> Result<Result<(), (u16, u16)>, AllocError> {
     let bytes = file(heap, words)?;
     Ok(verdict::<L>(bytes.as_slice()))
 }

@@ -82,52 +82,58 @@ fn names_are_those_reached(rt: HostRuntime) -> Result<(), Fail> {
 
 #[test]
 fn bytes_that_are_refused(rt: HostRuntime) {
-    assert_eq!(rt; verdict::<Formula>(&[]), (31, 0));
-    assert_eq!(rt; verdict::<Formula>(&[2, 0, 0, 0, 2, 0, 0]), (31, 0));
-    assert_eq!(rt; verdict::<Formula>(&[1, 0, 0, 0]), (32, 0));
-    assert_eq!(rt; verdict::<Formula>(&[1, 0, 0, 0, 3, 0, 0]), (32, 0));
-    assert_eq!(rt; verdict::<Formula>(&[1, 0, 0, 0, 0]), (32, 0));
-    assert_eq!(rt; verdict::<Formula>(&[1, 0, 0, 0, 1, 0]), (32, 0));
-    assert_eq!(rt; verdict::<Formula>(&[1, 0, 0, 0, 3, 0, 0, 9]), (32, 0));
-    assert_eq!(rt; verdict::<Formula>(&[1, 0, 0, 0, 3, 0, 1, 0]), (32, 0));
-    assert_eq!(rt; verdict::<Formula>(&[1, 0, 0, 0, 2, 0, 0]), (0, 0));
+    assert_eq!(rt; verdict::<Formula>(&[]), Err((31, 0)));
+    assert_eq!(rt; verdict::<Formula>(&[2, 0, 0, 0, 2, 0, 0]), Err((31, 0)));
+    assert_eq!(rt; verdict::<Formula>(&[1, 0, 0, 0]), Err((32, 0)));
+    assert_eq!(rt; verdict::<Formula>(&[1, 0, 0, 0, 3, 0, 0]), Err((32, 0)));
+    assert_eq!(rt; verdict::<Formula>(&[1, 0, 0, 0, 0]), Err((32, 0)));
+    assert_eq!(rt; verdict::<Formula>(&[1, 0, 0, 0, 1, 0]), Err((32, 0)));
+    assert_eq!(rt; verdict::<Formula>(&[1, 0, 0, 0, 3, 0, 0, 9]), Err((32, 0)));
+    assert_eq!(rt; verdict::<Formula>(&[1, 0, 0, 0, 3, 0, 1, 0]), Err((32, 0)));
+    assert_eq!(rt; verdict::<Formula>(&[1, 0, 0, 0, 2, 0, 0]), Ok(()));
 }
 
 #[test]
 fn words_that_are_refused(rt: HostRuntime) -> Result<(), Fail> {
     let heap = rt.alloc();
-    assert_eq!(rt; words_verdict::<Formula>(heap, &[257])?, (33, 0));
-    assert_eq!(rt; words_verdict::<Formula>(heap, &[256])?, (32, 0));
+    assert_eq!(rt; words_verdict::<Formula>(heap, &[257])?, Err((33, 0)));
+    assert_eq!(rt; words_verdict::<Formula>(heap, &[256])?, Err((32, 0)));
     assert_eq!(rt;
         words_verdict::<Formula>(heap, &[2, 0, 1, 0, 0, 0, 1, 0])?,
-        (32, 1)
+        Err((32, 1))
     );
     assert_eq!(rt;
         words_verdict::<Formula>(heap, &[1, 0, 1, 0, 0, 0])?,
-        (32, 0)
+        Err((32, 0))
     );
-    assert_eq!(rt; words_verdict::<Formula>(heap, &[1, 8, 0, 0, 0])?, (33, 0));
-    assert_eq!(rt; words_verdict::<Formula>(heap, &[1, 1, 16, 0, 0])?, (33, 0));
-    assert_eq!(rt; words_verdict::<Formula>(heap, &[1, 1, 15, 0, 0])?, (0, 0));
+    assert_eq!(rt;
+        words_verdict::<Formula>(heap, &[1, 8, 0, 0, 0])?,
+        Err((33, 0))
+    );
+    assert_eq!(rt;
+        words_verdict::<Formula>(heap, &[1, 1, 16, 0, 0])?,
+        Err((33, 0))
+    );
+    assert_eq!(rt; words_verdict::<Formula>(heap, &[1, 1, 15, 0, 0])?, Ok(()));
     assert_eq!(rt;
         words_verdict::<Formula>(heap, &[2, 0, 1, 0, 0, 0, 1, 1, 0])?,
-        (33, 1)
+        Err((33, 1))
     );
     assert_eq!(rt;
         words_verdict::<Formula>(heap, &[2, 0, 1, 0, 0, 0, 1, 0, 1])?,
-        (33, 1)
+        Err((33, 1))
     );
     assert_eq!(rt;
         words_verdict::<Formula>(heap, &[2, 0, 1, 0, 0, 2, 0, 1, 0])?,
-        (33, 1)
+        Err((33, 1))
     );
     assert_eq!(rt;
         words_verdict::<Formula>(heap, &[2, 0, 1, 0, 0, 2, 0, 0, 1])?,
-        (33, 1)
+        Err((33, 1))
     );
     assert_eq!(rt;
         words_verdict::<Formula>(heap, &[2, 0, 1, 0, 0, 7, 0, 0, 1])?,
-        (33, 1)
+        Err((33, 1))
     );
     Ok(())
 }

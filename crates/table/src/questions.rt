@@ -27,10 +27,8 @@ impl Language for Table {
     }
 
     fn names(&self, expression: u16, variable: u16) -> bool {
-        let Some(record) = self.records.get(usize::from(expression)) else {
-            return false;
-        };
-        record.a == variable || record.b == variable
+        let record = self.records.get(usize::from(expression));
+        record.is_some_and(|record| record.a == variable || record.b == variable)
     }
 }
 

@@ -16,10 +16,7 @@ impl FileRecord for Record {
 
     fn decode(_k: u16, words: [u16; 4]) -> Option<Record> {
         let [a, b, m, start] = words;
-        if a < 16 && b < 16 && m >= 1 && m <= 256 {
-            Some(Record { a, b, m, start })
-        } else {
-            None
-        }
+        let ruled = a < 16 && b < 16 && (1..=256).contains(&m);
+        ruled.then_some(Record { a, b, m, start })
     }
 }
