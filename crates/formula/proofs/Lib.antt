@@ -1,4 +1,4 @@
-pub mod Answering
+pub mod Keeping
 pub mod Decoding
 pub mod Files
 pub mod Formats

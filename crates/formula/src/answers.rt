@@ -1,24 +1,31 @@
-// The answers of cells to a question, each found once, from the first cell on: a shared cell is not worked out again.
-ghost use Rattle.std.specs.Prelude.{◌≡◌, ℕ, min, true, length};
+// The answers of cells to a question, each found once: a shared cell is not worked out again.
+ghost use Rattle.std.specs.Prelude.{◌≡◌, ℕ, ◌<◌, ◌≤◌, true, length};
 ghost use Rattle.arrayvec.specs.ArrayVec.{array_vec_len};
-ghost use Rattle.formula.specs.Answers.{Holds, Solves};
-ghost use Rattle.formula.specs.Cells.{ruled, step_of, reads_of};
+ghost use Rattle.formula.specs.Answers.{Kept, Solves};
+ghost use Rattle.formula.specs.Cells.{cell_at, ruled, step_of, reads_of};
 ghost use Rattle.formula.specs.declared.cell.Cell.{Cell};
+ghost use Rattle.formula.specs.declared.cell.Cell.TheVariants.{Constant, Variable, Binary, Choose};
 
-use crate::cell::Cell;
+use crate::cell::{Cell, Operation};
 use crate::formula::Formula;
-use arrayvec::ArrayVec;
 use language::variable_value;
 
-// What each cell answers by the answers of the cells before it.
+// What each kind of cell answers by the answers of its operands.
 pub(crate) trait Question<X> {
     // the answer of a cell, where a function has those of the cells before it
     ghost step: { Self → Cell → (ℕ → X) → X };
 
-    // The answer of a cell, where a list has those of the cells before it.
-    fn answer(&self, cell: Cell, before: &[X]) -> X
-        requires { ruled (length before.now) cell ≡ true }
-        ensures answer { (f : ℕ → X) → Holds f before.now → result ≡ step self.now cell f };
+    fn constant(&self, a: u16) -> X
+        ensures answer { (f : ℕ → X) → result ≡ step self.now (Constant a) f };
+
+    fn variable(&self, x: u16) -> X
+        ensures answer { (f : ℕ → X) → result ≡ step self.now (Variable x) f };
+
+    fn operation(&self, operation: Operation, x: X, y: X) -> X
+        ensures answer { (f : ℕ → X) (a b : ℕ) → x ≡ f a → y ≡ f b → result ≡ step self.now (Binary operation a b) f };
+
+    fn choice(&self, x: X, y: X, z: X) -> X
+        ensures answer { (f : ℕ → X) (a b c : ℕ) → x ≡ f a → y ≡ f b → z ≡ f c → result ≡ step self.now (Choose a b c) f };
 }
 
 // The value of a cell under a valuation.
@@ -30,20 +37,20 @@ pub(crate) struct Value<'a> {
 impl<'a> Question<u16> for Value<'a> {
     ghost step = { λ q cell f. step_of cell q.valuation.now f };
 
-    fn answer(&self, cell: Cell, before: &[u16]) -> u16 {
-        match cell {
-            Cell::Constant(a) => a,
-            Cell::Variable(x) => variable_value(self.valuation, x),
-            Cell::Binary(operation, a, b) => {
-                let x = before[usize::from(a)];
-                let y = before[usize::from(b)];
-                operation.apply(x, y)
-            }
-            Cell::Choose(a, b, c) => {
-                let chosen = if before[usize::from(a)] != 0 { b } else { c };
-                before[usize::from(chosen)]
-            }
-        }
+    fn constant(&self, a: u16) -> u16 {
+        a
+    }
+
+    fn variable(&self, x: u16) -> u16 {
+        variable_value(self.valuation, x)
+    }
+
+    fn operation(&self, operation: Operation, x: u16, y: u16) -> u16 {
+        operation.apply(x, y)
+    }
+
+    fn choice(&self, x: u16, y: u16, z: u16) -> u16 {
+        if x != 0 { y } else { z }
     }
 }
 
@@ -56,32 +63,67 @@ pub(crate) struct Names {
 impl Question<bool> for Names {
     ghost step = { λ q cell f. reads_of cell q.variable f };
 
-    fn answer(&self, cell: Cell, before: &[bool]) -> bool {
-        match cell {
-            Cell::Constant(_) => false,
-            Cell::Variable(x) => x == self.variable,
-            Cell::Binary(_, a, b) => before[usize::from(a)] || before[usize::from(b)],
-            Cell::Choose(a, b, c) => {
-                before[usize::from(a)] || before[usize::from(b)] || before[usize::from(c)]
-            }
-        }
+    fn constant(&self, _a: u16) -> bool {
+        false
+    }
+
+    fn variable(&self, x: u16) -> bool {
+        x == self.variable
+    }
+
+    fn operation(&self, _operation: Operation, p: bool, q: bool) -> bool {
+        p || q
+    }
+
+    fn choice(&self, p: bool, q: bool, s: bool) -> bool {
+        p || q || s
     }
 }
 
 impl Formula {
-    // The answers of the first `count` cells, or of all where there are fewer.
-    pub(crate) fn answers<X: Copy + Default, Q: Question<X>>(
-        &self,
-        question: &Q,
-        count: usize,
-    ) -> ArrayVec<X, 256>
-        ensures count { array_vec_len result ≡ min count (array_vec_len self.now.cells) }
-        ensures answers { (f : ℕ → X) → Solves (Q.step question.now) self.now.cells.items f → Holds f result.items }
+    // Cell `e`, whose operands are cells before it.
+    fn cell(&self, e: u16) -> Cell
+        requires { e < array_vec_len self.now.cells }
+        ensures answer { result ≡ cell_at self.now.cells.items e }
+        ensures rules { ruled e result ≡ true }
     {
-        let mut answers = ArrayVec::new();
-        for cell in &self.cells[..count.min(self.cells.len())] {
-            answers.push(question.answer(*cell, answers.as_slice()));
+        self.cells[usize::from(e)]
+    }
+
+    // The answer of cell `e`; the memo keeps those found on the way.
+    pub(crate) fn find<X: Copy, Q: Question<X>>(
+        &self,
+        e: u16,
+        question: &Q,
+        memo: &mut [Option<X>],
+    ) -> X
+        requires within { e < array_vec_len self.now.cells }
+        requires room { array_vec_len self.now.cells ≤ length memo.old }
+        requires kept { (f : ℕ → X) → Solves (Q.step question.now) self.now.cells.items f → Kept f memo.old }
+        ensures answer { (f : ℕ → X) → Solves (Q.step question.now) self.now.cells.items f → result ≡ f e }
+        ensures leaves { (f : ℕ → X) → Solves (Q.step question.now) self.now.cells.items f → Kept f memo.new }
+        ensures same { length memo.new ≡ length memo.old }
+    {
+        let at = usize::from(e);
+        if let Some(x) = memo[at] {
+            return x;
         }
-        answers
+        let found = match self.cell(e) {
+            Cell::Constant(a) => question.constant(a),
+            Cell::Variable(x) => question.variable(x),
+            Cell::Binary(operation, a, b) => {
+                let x = self.find(a, question, memo);
+                let y = self.find(b, question, memo);
+                question.operation(operation, x, y)
+            }
+            Cell::Choose(a, b, c) => {
+                let x = self.find(a, question, memo);
+                let y = self.find(b, question, memo);
+                let z = self.find(c, question, memo);
+                question.choice(x, y, z)
+            }
+        };
+        memo[at] = Some(found);
+        found
     }
 }

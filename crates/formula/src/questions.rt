@@ -18,15 +18,19 @@ impl Language for Formula {
     }
 
     fn value(&self, expression: u16, valuation: &[u16]) -> u16 {
-        let at = usize::from(expression);
-        let values = self.answers(&Value { valuation }, at + 1);
-        values.get(at).copied().unwrap_or(0)
+        if usize::from(expression) >= self.cells.len() {
+            return 0;
+        }
+        let mut memo = [None; 256];
+        self.find(expression, &Value { valuation }, &mut memo)
     }
 
     fn names(&self, expression: u16, variable: u16) -> bool {
-        let at = usize::from(expression);
-        let names = self.answers(&Names { variable }, at + 1);
-        names.get(at).copied().unwrap_or(false)
+        if usize::from(expression) >= self.cells.len() {
+            return false;
+        }
+        let mut memo = [None; 256];
+        self.find(expression, &Names { variable }, &mut memo)
     }
 }
 

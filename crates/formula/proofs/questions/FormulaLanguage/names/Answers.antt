@@ -1,16 +1,18 @@
-use Rattle.std.proofs.Common.{◌≡◌, false, length, get_or, ◌∙◌, arith, rules}
+use Rattle.std.proofs.Common.{length, sym, arith}
 use Rattle.formula.specs.Among.{names_is, names_beyond}
 use Rattle.formula.specs.Cells.{names_among}
-use Rattle.formula.proofs.Answering.{answer_at}
+use Rattle.formula.proofs.Keeping.{kept_none}
 use Rattle.formula.proofs.questions.FormulaLanguage.names.Goals as goal
+
+pub returns-then-from-len : goal.returns-then-from-len
+returns-then-from-len c = let cs = c.args.self.now.cells.items in record { answer = sym (names_beyond cs c.args.variable (length cs) c.args.expression (omega arith)) }
+
+pub find-requires-clause-kept : goal.find-requires-clause-kept
+find-requires-clause-kept c = λ f _. kept_none f 256
 
 pub returns : goal.returns
 returns c =
     let f = c.args.self.now in
     let cs = f.cells.items in
     let n = length cs in
-    let x = c.args.variable in
-    let names = c.answers-names.result.items in
-    let held = c.answers-names.ensures.answers (names_among cs x n) (λ e lt. names_is cs n e f.ruled lt x) in
-    let got : c.unwrap_or.result ≡ get_or names c.args.expression false = search rules in
-    record { answer = got ∙ answer_at (names_among cs x n) false names n c.args.expression held (omega arith) (names_beyond cs x n c.args.expression) }
+    record { answer = c.find.ensures.answer (names_among cs c.args.variable n) (λ e lt. names_is cs n e f.ruled lt c.args.variable) }
