@@ -9,6 +9,7 @@ use arrayvec::ArrayVec;
 #[derive(Drop)]
 pub struct Formula {
     pub(crate) cells: ArrayVec<Cell, 256>,
+    // a law sees of the list its cells alone, and not the bound that its type keeps
     ghost few: { array_vec_len cells ≤ 256 },
     ghost ruled: { lawful cells.items ≡ true },
 }

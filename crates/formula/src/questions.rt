@@ -43,6 +43,7 @@ impl FileLanguage for Formula {
         }
     }
 
+    // The trait could give this body only if it had `read` too, and that would be longer.
     fn fill(&mut self, bytes: &[u8]) -> Result<(), DataFault> {
         *self = Formula::read(bytes)?;
         Ok(())

@@ -22,6 +22,7 @@ pub trait FileRecord: Copy + Default {
 fn record_at<T: FileRecord>(bytes: &[u8], k: u16) -> Result<T, DataFault>
     ensures answer { result ≡ record_at T.decoded bytes.now k }
 {
+    // the header and the count are 7 bytes, and each record before it is 8
     let at = 7 + 8 * usize::from(k);
     if bytes.len() < at + 8 {
         return Err(DataFault::Length(k));

@@ -42,6 +42,7 @@ impl FileLanguage for Table {
         }
     }
 
+    // The trait could give this body only if it had `read` too, and that would be longer.
     fn fill(&mut self, bytes: &[u8]) -> Result<(), DataFault> {
         *self = Table::read(bytes)?;
         Ok(())

@@ -10,6 +10,7 @@ use arrayvec::ArrayVec;
 pub struct Table {
     pub(crate) records: ArrayVec<Record, 256>,
     pub(crate) values: ArrayVec<u16, 4096>,
+    // a law sees of the list its records alone, and not the bound that its type keeps
     ghost few: { array_vec_len records ≤ 256 },
     ghost ruled: { lawful records.items ≡ true },
 }

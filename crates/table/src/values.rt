@@ -35,9 +35,10 @@ pub(crate) fn values(bytes: &[u8], at: usize, total: u16) -> ArrayVec<u16, 4096>
     requires few { total ≤ 4096 }
     ensures answer { result.items ≡ words_from bytes.now at total }
 {
+    let (words, _) = bytes[at..at + 2 * usize::from(total)].as_chunks::<2>();
     let mut values = ArrayVec::new();
-    for k in 0..total {
-        values.push(word_at(bytes, at + 2 * usize::from(k)));
+    for word in words {
+        values.push(u16::from_be_bytes(*word));
     }
     values
 }
