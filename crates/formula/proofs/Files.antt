@@ -1,24 +1,22 @@
--- The formula that a file gives: the first cells of a table. Assumes nothing.
-use Rattle.std.proofs.Common.{◌≡◌, ℕ, ◌≤◌, true, List, length, take, Ok, ap, ◌∙◌, subst}
-use Rattle.std.proofs.lemmas.List.{length-take-le}
+-- The formula that a file gives. Assumes nothing.
+use Rattle.std.proofs.Common.{◌≡◌, ℕ, true, List, IfOk, Ok}
 use Rattle.std.proofs.lemmas.Result.{IfOk-at_ok}
 use Rattle.words.specs.Words.{Bytes}
-use Rattle.language.specs.Files.{then}
-use Rattle.formula.specs.Cells.{lawful, meaning_of}
-use Rattle.formula.specs.Files.{formula_file, formula_language}
+use Rattle.language.specs.Files.{records_of}
+use Rattle.language.proofs.Runs.{records_ruled}
+use Rattle.formula.specs.Cells.{lawful, ruled, meaning_of}
+use Rattle.formula.specs.Files.{decoded, formula_file}
 use Rattle.formula.specs.Formats.{formula_bytes}
-use Rattle.formula.specs.Rules.{Means, ReadsAs}
+use Rattle.formula.specs.Rules.{ReadsAs}
 use Rattle.formula.specs.declared.cell.Cell.{Cell}
-use Rattle.formula.specs.Among.{lawful_front, meaning_front}
+use Rattle.formula.specs.declared.cell.Cell.TheVariants.{Constant}
+use Rattle.formula.proofs.Decoding.{decoded_ruled}
 use Rattle.formula.proofs.Formats.{file_bytes}
 use Rattle.formula.proofs.Meant.{means}
 
-pub read_as : (bs : List ℕ) (cells : List Cell) (n : ℕ) → n ≤ length cells → lawful cells n ≡ true → Bytes bs → formula_file bs ≡ Ok (take n cells) → (formula_language bs ≡ Ok (meaning_of cells n)) × ReadsAs bs (meaning_of cells n)
-read_as bs cells n le ok low file =
-    let cs = take n cells in
-    let long : length cs ≡ n = length-take-le n cells le in
-    let same : meaning_of cs (length cs) ≡ meaning_of cells n = ap (meaning_of cs) long ∙ meaning_front cells n in
-    let whole : lawful cs (length cs) ≡ true = ap (lawful cs) long ∙ lawful_front cells n ∙ ok in (
-      ap (λ r. then r (λ ds. Ok (meaning_of ds (length ds)))) file ∙ ap Ok same,
-      (cs, record { file = file; bytes = IfOk-at_ok (λ ds. bs ≡ formula_bytes ds) file (file_bytes bs low); means = subst (Means cs) same (means cs whole) }),
-    )
+pub cells_lawful : (bs : List ℕ) → IfOk (records_of decoded bs) (λ cs. lawful cs ≡ true)
+cells_lawful bs = records_ruled decoded bs ruled (Constant 0) decoded_ruled
+
+pub read_as : (bs : List ℕ) (cs : List Cell) → Bytes bs → lawful cs ≡ true → formula_file bs ≡ Ok cs → ReadsAs bs (meaning_of cs)
+read_as bs cs low ok file =
+    (cs, record { file = file; bytes = IfOk-at_ok (λ ds. bs ≡ formula_bytes ds) file (file_bytes bs low); means = means cs ok })

@@ -2,8 +2,12 @@
 use Rattle.std.proofs.Common.{◌≡◌, ℕ, ◌<◌, ◌≤◌, List, length, get_or, set, replicate, Some, None, Option, sym, ◌∙◌, ⊎_elim, arith, get_or-set_other, get_or-set_same}
 use lib.ListN.{length-replicate, get_or-replicate}
 use Rattle.std.proofs.lemmas.Bool.{cases_eq, cases_lt}
-use Rattle.std.proofs.lemmas.List.{get_or_past}
-use Rattle.formula.specs.Memos.{Kept}
+use Rattle.std.proofs.lemmas.List.{get_or_default, get_or_past}
+use Rattle.formula.specs.Answers.{Kept}
+
+-- an answer that is found under a number, wherever the default comes from
+pub kept_at : {X : Type 0} (f : ℕ → X) (m : List (Option X)) (e k : ℕ) (d : Option X) (x : X) → k ≡ e → e < length m → Kept f m → get_or m k d ≡ Some x → x ≡ f e
+kept_at f m e k d x same lt kept there = kept e x (get_or_default m e None d lt ∙ rw same at there)
 
 pub kept_more : {X : Type 0} (f : ℕ → X) (m : List (Option X)) (e : ℕ) (x : X) → e < length m → Kept f m → x ≡ f e → Kept f (set m e (Some x))
 kept_more f m e x lt kept is k y there =

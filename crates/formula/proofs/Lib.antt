@@ -1,5 +1,5 @@
+pub mod Keeping
 pub mod Decoding
 pub mod Files
 pub mod Formats
-pub mod Keeping
 pub mod Meant

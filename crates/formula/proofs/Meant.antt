@@ -11,7 +11,7 @@ use Rattle.formula.specs.declared.cell.Cell.{Cell}
 use Rattle.formula.specs.declared.cell.Cell.TheVariants.{Constant, Variable, Binary, Choose}
 use Rattle.formula.specs.Among.{lawful_at, value_is, names_is}
 
-module _ (cs : List Cell) (whole : lawful cs (length cs) ≡ true) where
+module _ (cs : List Cell) (whole : lawful cs ≡ true) where
   module _ (v : List ℕ) where
     abbrev val : ℕ → ℕ
     val e = value_among cs v (length cs) e
@@ -132,7 +132,7 @@ module _ (cs : List Cell) (whole : lawful cs (length cs) ≡ true) where
     named (taken e a b c k is r) var = names_by e _ is ∙ or_left (nm a || nm b) (nm c) (or_right (nm a) (nm b) (named r var))
     named (otherwise e a b c k is r) var = names_by e _ is ∙ or_right (nm a || nm b) (nm c) (named r var)
 
-  pub means : Means cs (meaning_of cs (length cs))
+  pub means : Means cs (meaning_of cs)
   means =
       record {
         count = refl;

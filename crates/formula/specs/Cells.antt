@@ -3,9 +3,10 @@
 --     step_of c v f              a cell's value, where f has the values of the cells before it
 --     reads_of c x f             whether a cell names x, where f says it of the cells before it
 --     value_among, names_among   the same of cell e among the first n
---     lawful cs n                each of the first n cells keeps the rules
---     meaning_of cs n            the language of the first n cells
-use Rattle.std.specs.Prelude.{ℕ, zero, suc, ◌+◌, ◌-◌, ◌*◌, Bool, true, false, cond, ◌&&◌, ◌||◌, List, ◌==◌, nat_lt, slice_index_or}
+--     lawful_among cs n          each of the first n cells keeps the rules
+--     lawful cs                  each cell does
+--     meaning_of cs              the language of the cells
+use Rattle.std.specs.Prelude.{ℕ, zero, suc, ◌+◌, ◌-◌, ◌*◌, Bool, true, false, cond, ◌&&◌, ◌||◌, List, length, ◌==◌, nat_lt, slice_index_or}
 use Rattle.language.specs.Files.{every}
 use Rattle.language.specs.Meanings.{Meaning, value_at, word}
 use Rattle.formula.specs.declared.cell.Operation.{Operation}
@@ -50,8 +51,11 @@ ruled k (Variable x) = nat_lt x 16
 ruled k (Binary op a b) = nat_lt a k && nat_lt b k
 ruled k (Choose a b c) = nat_lt a k && nat_lt b k && nat_lt c k
 
-abbrev pub lawful : List Cell → ℕ → Bool
-lawful cs n = every (λ k. ruled k (cell_at cs k)) n
+abbrev pub lawful_among : List Cell → ℕ → Bool
+lawful_among cs n = every (λ k. ruled k (cell_at cs k)) n
 
-abbrev pub meaning_of : List Cell → ℕ → Meaning
-meaning_of cs n = record { count = n; value = λ e v. value_among cs v n e; names = λ e x. names_among cs x n e }
+abbrev pub lawful : List Cell → Bool
+lawful cs = lawful_among cs (length cs)
+
+abbrev pub meaning_of : List Cell → Meaning
+meaning_of cs = record { count = length cs; value = λ e v. value_among cs v (length cs) e; names = λ e x. names_among cs x (length cs) e }

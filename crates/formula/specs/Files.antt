@@ -1,14 +1,12 @@
 -- A formula file: after the header a count of cells, then cells of four words: operation, a, b, c.
 --     decoded k op a b c    cell k by its words, or none where a word is off its rules
---     cell_of bs k          cell k of a file, or its fault
 --     formula_file bs       the cells of a file, or its first fault in file order
 --     formula_language bs   the language of a file
-use Rattle.std.specs.Prelude.{ℕ, ◌+◌, ◌*◌, cond, ◌&&◌, List, length, Some, None, Ok, Err, Option, Result, ◌==◌, nat_lt}
-use Rattle.words.specs.Words.{word_at}
-use Rattle.language.specs.Files.{count_of, then, rows}
+use Rattle.std.specs.Prelude.{ℕ, cond, ◌&&◌, List, length, Some, None, Ok, Err, Option, Result, ◌==◌, nat_lt}
+use Rattle.language.specs.Files.{then, record_place, records_of}
 use Rattle.language.specs.Meanings.{Meaning}
 use Rattle.language.specs.declared.fault.DataFault.{DataFault}
-use Rattle.language.specs.declared.fault.DataFault.TheVariants.{Length, Rule}
+use Rattle.language.specs.declared.fault.DataFault.TheVariants.{Length}
 use Rattle.formula.specs.Cells.{meaning_of}
 use Rattle.formula.specs.declared.cell.Operation.{Operation}
 use Rattle.formula.specs.declared.cell.Operation.TheVariants.{Sum, Difference, Product, Equal, Less}
@@ -30,24 +28,8 @@ decoded k op a b c =
     (cond (op == 6) (binary k a b c Less)
     (cond (op == 7) (cond (nat_lt a k && nat_lt b k && nat_lt c k) (Some (Choose a b c)) None) None)))))))
 
-abbrev pub or_rule : ℕ → Option Cell → Result Cell DataFault
-or_rule k (Some c) = Ok c
-or_rule k None = Err (Rule k)
-
--- where cell k begins
-abbrev pub cell_place : ℕ → ℕ
-cell_place k = 7 + 8 * k
-
-abbrev pub cell_of : List ℕ → ℕ → Result Cell DataFault
-cell_of bs k =
-    cond (nat_lt (length bs) (cell_place k + 8)) (Err (Length k))
-    (or_rule k (decoded k (word_at bs (cell_place k)) (word_at bs (cell_place k + 2)) (word_at bs (cell_place k + 4)) (word_at bs (cell_place k + 6))))
-
 abbrev pub formula_file : List ℕ → Result (List Cell) DataFault
-formula_file bs =
-    then (count_of bs) (λ n.
-    then (rows (cell_of bs) n) (λ cs.
-    cond (length bs == cell_place n) (Ok cs) (Err (Length 0))))
+formula_file bs = then (records_of decoded bs) (λ cs. cond (length bs == record_place (length cs)) (Ok cs) (Err (Length 0)))
 
 abbrev pub formula_language : List ℕ → Result Meaning DataFault
-formula_language bs = then (formula_file bs) (λ cs. Ok (meaning_of cs (length cs)))
+formula_language bs = then (formula_file bs) (λ cs. Ok (meaning_of cs))

@@ -1,10 +1,10 @@
 -- What each data language promises, of formulas. Assumes nothing.
-use Rattle.std.specs.Prelude.{◌≡◌, ℕ, zero, suc, ◌<◌, ◌≤◌, Bool, true, false, cond, ◌||◌, List, ◌==◌, nat_lt, refl}
+use Rattle.std.specs.Prelude.{◌≡◌, ℕ, zero, suc, ◌<◌, ◌≤◌, Bool, true, false, cond, ◌||◌, List, length, ◌==◌, nat_lt, refl}
 use Rattle.std.proofs.Common.{ap, ⊎_elim, arith}
 use Rattle.std.proofs.lemmas.Bool.{and_parts, cond_both, eq-eqb, eqb-true, ltb-true, or_cases, or_left, or_right, false≢true}
 use Rattle.language.specs.Meanings.{Agree, Lawful, word}
 use Rattle.formula.specs.Among.{value_beyond, names_beyond}
-use Rattle.formula.specs.Cells.{lawful, ruled, cell_at, step_of, reads_of, applied, value_among, names_among, meaning_of}
+use Rattle.formula.specs.Cells.{lawful, lawful_among, ruled, cell_at, step_of, reads_of, applied, value_among, names_among, meaning_of}
 use Rattle.formula.specs.declared.cell.Operation.{Operation}
 use Rattle.formula.specs.declared.cell.Operation.TheVariants.{Sum, Difference, Product, Equal, Less}
 use Rattle.formula.specs.declared.cell.Cell.{Cell}
@@ -39,10 +39,10 @@ reads_low n (Binary op a b) x f ok low h = ⊎_elim (low a) (low b) (or_cases (f
 reads_low n (Choose a b c) x f ok low h =
     ⊎_elim (λ ab. ⊎_elim (low a) (low b) (or_cases (f a) (f b) ab)) (low c) (or_cases (f a || f b) (f c) h)
 
-pub names_low : (cs : List Cell) (x n e : ℕ) → lawful cs n ≡ true → names_among cs x n e ≡ true → x < 16
+pub names_low : (cs : List Cell) (x n e : ℕ) → lawful_among cs n ≡ true → names_among cs x n e ≡ true → x < 16
 names_low cs x zero e ok h = absurd (false≢true h)
 names_low cs x (suc n) e ok h =
-    let parts = and_parts (lawful cs n) (ruled n (cell_at cs n)) ok in
+    let parts = and_parts (lawful_among cs n) (ruled n (cell_at cs n)) ok in
     cond_both (e == n) (reads_of (cell_at cs n) x (names_among cs x n)) (names_among cs x n e) (λ b. b ≡ true → x < 16)
     (λ _. reads_low n (cell_at cs n) x (names_among cs x n) parts.1 (λ a. names_low cs x n a parts.0))
     (λ _. names_low cs x n e parts.0)
@@ -75,9 +75,10 @@ module _ (v w : List ℕ) where
       (value_agrees cs n e)
       h
 
--- the first n cells, each of which keeps the rules, are a lawful language
-pub lawful_language : (cs : List Cell) (n : ℕ) → n ≤ 256 → lawful cs n ≡ true → Lawful (meaning_of cs n)
-lawful_language cs n few ok =
+-- cells that each keep the rules are a lawful language
+pub lawful_language : (cs : List Cell) → length cs ≤ 256 → lawful cs ≡ true → Lawful (meaning_of cs)
+lawful_language cs few ok =
+    let n = length cs in
     record {
       few = few;
       small = λ e v. value_small cs v n e;

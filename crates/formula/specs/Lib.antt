@@ -1,7 +1,7 @@
 pub mod Cells
 pub mod Files
 pub mod Formats
-pub mod Memos
+pub mod Answers
 pub mod Rules
 pub mod Laws
 pub mod Among

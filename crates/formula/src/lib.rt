@@ -1,11 +1,11 @@
 // Formulas: the data language whose expressions are cells, each an operation on cells before it.
 #![tactic(auto)]
 
+mod answers;
 mod cell;
-mod cells;
+mod decode;
 mod formula;
 mod questions;
 mod reading;
-mod values;
 
 pub use formula::Formula;

@@ -3,46 +3,47 @@ ghost use Rattle.formula.specs.Cells.{meaning_of};
 ghost use Rattle.formula.specs.Files.{formula_language};
 ghost use Rattle.formula.specs.Laws.{lawful_language};
 
-use crate::cell::Cell;
+use crate::answers::{Names, Value};
 use crate::formula::Formula;
+use arrayvec::ArrayVec;
 use language::{DataFault, FileLanguage, Language};
 
 impl Language for Formula {
-    ghost meaning = { λ f. meaning_of f.cells f.count };
+    ghost meaning = { λ f. meaning_of f.cells.items };
 
-    ghost lawful = { λ l. lawful_language l.cells l.count l.few l.ruled };
+    ghost lawful = { λ l. lawful_language l.cells.items l.few l.ruled };
 
     fn count(&self) -> u16 {
-        self.count
+        self.cells.len() as u16
     }
 
     fn value(&self, expression: u16, valuation: &[u16]) -> u16 {
-        if expression >= self.count {
+        if usize::from(expression) >= self.cells.len() {
             return 0;
         }
         let mut memo = [None; 256];
-        self.find_value(expression, valuation, &mut memo)
+        self.find(expression, &Value { valuation }, &mut memo)
     }
 
     fn names(&self, expression: u16, variable: u16) -> bool {
-        if expression >= self.count {
+        if usize::from(expression) >= self.cells.len() {
             return false;
         }
         let mut memo = [None; 256];
-        self.find_names(expression, variable, &mut memo)
+        self.find(expression, &Names { variable }, &mut memo)
     }
 }
 
 impl FileLanguage for Formula {
-    ghost file = { λ bytes. formula_language bytes };
+    ghost file = { formula_language };
 
     fn empty() -> Formula {
         Formula {
-            cells: [Cell::Constant(0); 256],
-            count: 0,
+            cells: ArrayVec::new(),
         }
     }
 
+    // The trait could give this body only if it had `read` too, and that would be longer.
     fn fill(&mut self, bytes: &[u8]) -> Result<(), DataFault> {
         *self = Formula::read(bytes)?;
         Ok(())

@@ -1,6 +1,9 @@
 // Why a data file is refused.
 ghost use Rattle.std.specs.Prelude.{◌≡◌};
 ghost use Rattle.language.specs.Faults.{number_of, record_of};
+ghost use Rattle.language.specs.Files.{data_fault};
+
+use words::HeaderFault;
 
 #[derive(Clone, Copy, Debug, PartialEq, Eq)]
 pub enum DataFault {
@@ -30,8 +33,18 @@ impl DataFault {
     {
         match self {
             DataFault::Version => 0,
-            DataFault::Length(record) => record,
-            DataFault::Rule(record) => record,
+            DataFault::Length(record) | DataFault::Rule(record) => record,
+        }
+    }
+}
+
+impl From<HeaderFault> for DataFault {
+    ghost from_gives = { λ fault r. r ≡ data_fault fault };
+
+    fn from(fault: HeaderFault) -> DataFault {
+        match fault {
+            HeaderFault::Version => DataFault::Version,
+            HeaderFault::Length => DataFault::Length(0),
         }
     }
 }

@@ -1,12 +1,12 @@
 // Data files: what they all begin with, and languages that can be filled from one.
-ghost use Rattle.std.specs.Prelude.{◌≡◌, ℕ, ◌+◌, ◌≤◌, List, length, IfOk, Result};
-ghost use Rattle.language.specs.Files.{headed, count_of, answer_of, Leaves};
+ghost use Rattle.std.specs.Prelude.{◌≡◌, ℕ, ◌≤◌, List, IfOk, Result};
+ghost use Rattle.language.specs.Files.{count_of, answer_of, Leaves};
 ghost use Rattle.language.specs.Meanings.{Meaning, nothing};
 ghost use Rattle.language.specs.declared.fault.DataFault.{DataFault};
 
 use crate::fault::DataFault;
 use crate::questions::Language;
-use words::{HeaderFault, check_header, word_at};
+use words::{check_header, word_at};
 
 const MOST_EXPRESSIONS: u16 = 256;
 
@@ -24,22 +24,12 @@ pub trait FileLanguage: Language {
         ensures leaves { Leaves (file bytes.now) Self.Language.meaning self.old self.new };
 }
 
-fn header(bytes: &[u8]) -> Result<(), DataFault>
-    ensures answer { result ≡ headed bytes.now }
-{
-    match check_header(bytes) {
-        Ok(()) => Ok(()),
-        Err(HeaderFault::Version) => Err(DataFault::Version),
-        Err(HeaderFault::Length) => Err(DataFault::Length(0)),
-    }
-}
-
 // The count of expressions, which follows the header of every data file.
 pub fn record_count(bytes: &[u8]) -> Result<u16, DataFault>
     ensures answer { result ≡ count_of bytes.now }
     ensures room { IfOk result (λ n. n ≤ 256) }
 {
-    header(bytes)?;
+    check_header(bytes)?;
     if bytes.len() < 7 {
         return Err(DataFault::Length(0));
     }

@@ -5,9 +5,11 @@
 mod fault;
 mod file;
 mod questions;
+mod record;
 mod valuation;
 
 pub use fault::DataFault;
 pub use file::{FileLanguage, record_count};
 pub use questions::Language;
+pub use record::{FileRecord, records};
 pub use valuation::variable_value;

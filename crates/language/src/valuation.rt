@@ -6,10 +6,5 @@ ghost use Rattle.language.specs.Meanings.{value_at};
 pub fn variable_value(valuation: &[u16], variable: u16) -> u16
     ensures answer { result ≡ value_at valuation.now variable }
 {
-    let at = variable as usize;
-    if at < valuation.len() {
-        valuation[at]
-    } else {
-        0
-    }
+    valuation.get(usize::from(variable)).copied().unwrap_or(0)
 }

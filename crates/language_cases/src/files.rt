@@ -1,33 +1,21 @@
-// Data files made from words, and what filling a language from one answers.
+// What filling a language from a file answers.
 use language::FileLanguage;
 use std::alloc::{AllocError, Global};
+use word_files::file_of_words;
 
-// The file of some words: version 1, the length of the rest, the words.
-pub(crate) fn file(heap: Global, words: &[u16]) -> Result<Vec<u8>, AllocError> {
-    let mut bytes = Vec::new(heap);
-    bytes.push(1)?;
-    let length = (words.len().wrapping_mul(2) & 0xffff_ffff) as u32;
-    bytes.extend_from_slice(&length.to_be_bytes())?;
-    for word in words {
-        bytes.extend_from_slice(&word.to_be_bytes())?;
-    }
-    Ok(bytes)
-}
-
-// The number and record of the refusal of a file, or 0 and 0 where it is taken.
-pub(crate) fn verdict<L: FileLanguage + Drop>(bytes: &[u8]) -> (u16, u16) {
+// What filling a language from a file answers: a refusal by its number and record.
+pub(crate) fn verdict<L: FileLanguage + Drop>(bytes: &[u8]) -> Result<(), (u16, u16)> {
     let mut language = L::empty();
-    match language.fill(bytes) {
-        Ok(()) => (0, 0),
-        Err(fault) => (fault.number(), fault.record()),
-    }
+    language
+        .fill(bytes)
+        .map_err(|fault| (fault.number(), fault.record()))
 }
 
 // The same of the file of some words.
 pub(crate) fn words_verdict<L: FileLanguage + Drop>(
     heap: Global,
     words: &[u16],
-) -> Result<(u16, u16), AllocError> {
-    let bytes = file(heap, words)?;
+) -> Result<Result<(), (u16, u16)>, AllocError> {
+    let bytes = file_of_words(heap, words)?;
     Ok(verdict::<L>(bytes.as_slice()))
 }

@@ -1,8 +1,9 @@
 // Formulas: every operation at its edges, and every refusal at its place.
-use crate::files::{file, verdict, words_verdict};
+use crate::files::{verdict, words_verdict};
 use formula::Formula;
 use language::{FileLanguage, Language};
 use std::test::Fail;
+use word_files::file_of_words;
 
 // Cells 0 to 5: the constants 3, 5, 65,535, 1, 256 and variable 2; then operations on them.
 const OPERATIONS: [u16; 73] = [
@@ -29,7 +30,7 @@ const OPERATIONS: [u16; 73] = [
 
 #[test]
 fn operations_at_their_edges(rt: HostRuntime) -> Result<(), Fail> {
-    let bytes = file(rt.alloc(), &OPERATIONS)?;
+    let bytes = file_of_words(rt.alloc(), &OPERATIONS)?;
     let mut formula = Formula::empty();
     assert!(rt; formula.fill(bytes.as_slice()).is_ok());
     assert_eq!(rt; formula.count(), 18);
@@ -56,7 +57,7 @@ fn operations_at_their_edges(rt: HostRuntime) -> Result<(), Fail> {
 
 #[test]
 fn what_is_beyond_counts_as_0(rt: HostRuntime) -> Result<(), Fail> {
-    let bytes = file(rt.alloc(), &OPERATIONS)?;
+    let bytes = file_of_words(rt.alloc(), &OPERATIONS)?;
     let mut formula = Formula::empty();
     assert!(rt; formula.fill(bytes.as_slice()).is_ok());
     assert_eq!(rt; formula.value(5, &[7, 8]), 0);
@@ -69,7 +70,7 @@ fn what_is_beyond_counts_as_0(rt: HostRuntime) -> Result<(), Fail> {
 
 #[test]
 fn names_are_those_reached(rt: HostRuntime) -> Result<(), Fail> {
-    let bytes = file(rt.alloc(), &OPERATIONS)?;
+    let bytes = file_of_words(rt.alloc(), &OPERATIONS)?;
     let mut formula = Formula::empty();
     assert!(rt; formula.fill(bytes.as_slice()).is_ok());
     assert!(rt; formula.names(5, 2));
@@ -82,59 +83,65 @@ fn names_are_those_reached(rt: HostRuntime) -> Result<(), Fail> {
 
 #[test]
 fn bytes_that_are_refused(rt: HostRuntime) {
-    assert_eq!(rt; verdict::<Formula>(&[]), (31, 0));
-    assert_eq!(rt; verdict::<Formula>(&[2, 0, 0, 0, 2, 0, 0]), (31, 0));
-    assert_eq!(rt; verdict::<Formula>(&[1, 0, 0, 0]), (32, 0));
-    assert_eq!(rt; verdict::<Formula>(&[1, 0, 0, 0, 3, 0, 0]), (32, 0));
-    assert_eq!(rt; verdict::<Formula>(&[1, 0, 0, 0, 0]), (32, 0));
-    assert_eq!(rt; verdict::<Formula>(&[1, 0, 0, 0, 1, 0]), (32, 0));
-    assert_eq!(rt; verdict::<Formula>(&[1, 0, 0, 0, 3, 0, 0, 9]), (32, 0));
-    assert_eq!(rt; verdict::<Formula>(&[1, 0, 0, 0, 3, 0, 1, 0]), (32, 0));
-    assert_eq!(rt; verdict::<Formula>(&[1, 0, 0, 0, 2, 0, 0]), (0, 0));
+    assert_eq!(rt; verdict::<Formula>(&[]), Err((31, 0)));
+    assert_eq!(rt; verdict::<Formula>(&[2, 0, 0, 0, 2, 0, 0]), Err((31, 0)));
+    assert_eq!(rt; verdict::<Formula>(&[1, 0, 0, 0]), Err((32, 0)));
+    assert_eq!(rt; verdict::<Formula>(&[1, 0, 0, 0, 3, 0, 0]), Err((32, 0)));
+    assert_eq!(rt; verdict::<Formula>(&[1, 0, 0, 0, 0]), Err((32, 0)));
+    assert_eq!(rt; verdict::<Formula>(&[1, 0, 0, 0, 1, 0]), Err((32, 0)));
+    assert_eq!(rt; verdict::<Formula>(&[1, 0, 0, 0, 3, 0, 0, 9]), Err((32, 0)));
+    assert_eq!(rt; verdict::<Formula>(&[1, 0, 0, 0, 3, 0, 1, 0]), Err((32, 0)));
+    assert_eq!(rt; verdict::<Formula>(&[1, 0, 0, 0, 2, 0, 0]), Ok(()));
 }
 
 #[test]
 fn words_that_are_refused(rt: HostRuntime) -> Result<(), Fail> {
     let heap = rt.alloc();
-    assert_eq!(rt; words_verdict::<Formula>(heap, &[257])?, (33, 0));
-    assert_eq!(rt; words_verdict::<Formula>(heap, &[256])?, (32, 0));
+    assert_eq!(rt; words_verdict::<Formula>(heap, &[257])?, Err((33, 0)));
+    assert_eq!(rt; words_verdict::<Formula>(heap, &[256])?, Err((32, 0)));
     assert_eq!(rt;
         words_verdict::<Formula>(heap, &[2, 0, 1, 0, 0, 0, 1, 0])?,
-        (32, 1)
+        Err((32, 1))
     );
     assert_eq!(rt;
         words_verdict::<Formula>(heap, &[1, 0, 1, 0, 0, 0])?,
-        (32, 0)
+        Err((32, 0))
     );
-    assert_eq!(rt; words_verdict::<Formula>(heap, &[1, 8, 0, 0, 0])?, (33, 0));
-    assert_eq!(rt; words_verdict::<Formula>(heap, &[1, 1, 16, 0, 0])?, (33, 0));
-    assert_eq!(rt; words_verdict::<Formula>(heap, &[1, 1, 15, 0, 0])?, (0, 0));
+    assert_eq!(rt;
+        words_verdict::<Formula>(heap, &[1, 8, 0, 0, 0])?,
+        Err((33, 0))
+    );
+    assert_eq!(rt;
+        words_verdict::<Formula>(heap, &[1, 1, 16, 0, 0])?,
+        Err((33, 0))
+    );
+    assert_eq!(rt; words_verdict::<Formula>(heap, &[1, 1, 15, 0, 0])?, Ok(()));
     assert_eq!(rt;
         words_verdict::<Formula>(heap, &[2, 0, 1, 0, 0, 0, 1, 1, 0])?,
-        (33, 1)
+        Err((33, 1))
     );
     assert_eq!(rt;
         words_verdict::<Formula>(heap, &[2, 0, 1, 0, 0, 0, 1, 0, 1])?,
-        (33, 1)
+        Err((33, 1))
     );
     assert_eq!(rt;
         words_verdict::<Formula>(heap, &[2, 0, 1, 0, 0, 2, 0, 1, 0])?,
-        (33, 1)
+        Err((33, 1))
     );
     assert_eq!(rt;
         words_verdict::<Formula>(heap, &[2, 0, 1, 0, 0, 2, 0, 0, 1])?,
-        (33, 1)
+        Err((33, 1))
     );
     assert_eq!(rt;
         words_verdict::<Formula>(heap, &[2, 0, 1, 0, 0, 7, 0, 0, 1])?,
-        (33, 1)
+        Err((33, 1))
     );
     Ok(())
 }
 
 #[test]
 fn a_refusal_leaves_the_formula(rt: HostRuntime) -> Result<(), Fail> {
-    let bytes = file(rt.alloc(), &OPERATIONS)?;
+    let bytes = file_of_words(rt.alloc(), &OPERATIONS)?;
     let mut formula = Formula::empty();
     assert!(rt; formula.fill(bytes.as_slice()).is_ok());
     assert!(rt; formula.fill(&[]).is_err());
@@ -151,7 +158,7 @@ fn a_shared_graph_answers_at_once(rt: HostRuntime) -> Result<(), Fail> {
     for k in 0..255u16 {
         words.extend_from_slice(&[2, k, k, 0])?;
     }
-    let bytes = file(rt.alloc(), words.as_slice())?;
+    let bytes = file_of_words(rt.alloc(), words.as_slice())?;
     let mut formula = Formula::empty();
     assert!(rt; formula.fill(bytes.as_slice()).is_ok());
     assert_eq!(rt; formula.value(15, &[1]), 32768);

@@ -1,3 +1,4 @@
 pub mod Formats
 pub mod Meant
+pub mod Pairs
 pub mod Ruled

@@ -1,33 +1,26 @@
 -- A table file: after the header a count of records, records of four words (variable a, variable b, m, start),
 -- a count of values, and the values.
---     record_of bs k      record k of a file, or its fault
+--     decoded k a b m s   record k by its words, or none where a word is off its rules
 --     total_of bs n       how many values follow n records, or the fault from there on
 --     words_from bs p t   t words from p on
 --     table_file bs       the records and values of a file, or its first fault in file order
 --     table_language bs   the language of a file
-use Rattle.std.specs.Prelude.{ℕ, zero, suc, ◌+◌, ◌*◌, cond, List, [], ◌∷◌, ◌++◌, length, Ok, Err, Result, ◌==◌, nat_le, nat_lt}
+use Rattle.std.specs.Prelude.{ℕ, zero, suc, ◌+◌, ◌*◌, cond, List, [], ◌∷◌, ◌++◌, length, Some, None, Ok, Err, Option, Result, ◌==◌, nat_le, nat_lt}
 use Rattle.words.specs.Words.{word_at}
-use Rattle.language.specs.Files.{count_of, then, rows}
+use Rattle.language.specs.Files.{then, record_place, records_of}
 use Rattle.language.specs.Meanings.{Meaning}
 use Rattle.language.specs.declared.fault.DataFault.{DataFault}
 use Rattle.language.specs.declared.fault.DataFault.TheVariants.{Length, Rule}
 use Rattle.table.specs.Records.{ruled, meaning_of}
 use Rattle.table.specs.declared.record.Record.{Record}
 
--- where record k begins, and where the count of values stands after n records
-abbrev pub record_place : ℕ → ℕ
-record_place k = 7 + 8 * k
-
+-- where the values begin after n records
 abbrev pub values_place : ℕ → ℕ
 values_place n = 9 + 8 * n
 
-abbrev pub record_words : List ℕ → ℕ → Record
-record_words bs p = record { a = word_at bs p; b = word_at bs (p + 2); m = word_at bs (p + 4); start = word_at bs (p + 6) }
-
-abbrev pub record_of : List ℕ → ℕ → Result Record DataFault
-record_of bs k =
-    cond (nat_lt (length bs) (record_place k + 8)) (Err (Length k))
-    (cond (ruled (record_words bs (record_place k))) (Ok (record_words bs (record_place k))) (Err (Rule k)))
+abbrev pub decoded : ℕ → ℕ → ℕ → ℕ → ℕ → Option Record
+decoded k a b m start =
+    cond (ruled (record { a = a; b = b; m = m; start = start })) (Some (record { a = a; b = b; m = m; start = start })) None
 
 abbrev pub total_of : List ℕ → ℕ → Result ℕ DataFault
 total_of bs n =
@@ -46,10 +39,9 @@ pub record Contents : Type 0 where
 
 abbrev pub table_file : List ℕ → Result Contents DataFault
 table_file bs =
-    then (count_of bs) (λ n.
-    then (rows (record_of bs) n) (λ rs.
-    then (total_of bs n) (λ t.
-    Ok (record { records = rs; values = words_from bs (values_place n) t }))))
+    then (records_of decoded bs) (λ rs.
+    then (total_of bs (length rs)) (λ t.
+    Ok (record { records = rs; values = words_from bs (values_place (length rs)) t })))
 
 abbrev pub table_language : List ℕ → Result Meaning DataFault
-table_language bs = then (table_file bs) (λ (f : Contents). Ok (meaning_of f.records (length f.records) f.values (length f.values)))
+table_language bs = then (table_file bs) (λ (f : Contents). Ok (meaning_of f.records f.values))

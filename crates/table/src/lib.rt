@@ -4,7 +4,7 @@
 mod questions;
 mod reading;
 mod record;
-mod records;
 mod table;
+mod values;
 
 pub use table::Table;

@@ -3,54 +3,46 @@ ghost use Rattle.table.specs.Files.{table_language};
 ghost use Rattle.table.specs.Records.{meaning_of};
 ghost use Rattle.table.specs.Laws.{lawful_language};
 
-use crate::record::NONE;
 use crate::table::Table;
+use arrayvec::ArrayVec;
 use language::{DataFault, FileLanguage, Language, variable_value};
 
 impl Language for Table {
-    ghost meaning = { λ t. meaning_of t.records t.count t.values t.total };
+    ghost meaning = { λ t. meaning_of t.records.items t.values.items };
 
-    ghost lawful = { λ l. lawful_language l.records l.count l.values l.total l.few l.ruled };
+    ghost lawful = { λ l. lawful_language l.records.items l.values.items l.few l.ruled };
 
     fn count(&self) -> u16 {
-        self.count
+        self.records.len() as u16
     }
 
     fn value(&self, expression: u16, valuation: &[u16]) -> u16 {
-        if expression >= self.count {
+        let Some(record) = self.records.get(usize::from(expression)) else {
             return 0;
-        }
-        let record = self.records[expression as usize];
-        let a = variable_value(valuation, record.a) as usize;
-        let b = variable_value(valuation, record.b) as usize;
-        let at = record.start as usize + a * record.m as usize + b;
-        if at >= self.total as usize {
-            return 0;
-        }
-        self.values[at]
+        };
+        let a = usize::from(variable_value(valuation, record.a));
+        let b = usize::from(variable_value(valuation, record.b));
+        let at = usize::from(record.start) + a * usize::from(record.m) + b;
+        self.values.get(at).copied().unwrap_or(0)
     }
 
     fn names(&self, expression: u16, variable: u16) -> bool {
-        if expression >= self.count {
-            return false;
-        }
-        let record = self.records[expression as usize];
-        record.a == variable || record.b == variable
+        let record = self.records.get(usize::from(expression));
+        record.is_some_and(|record| record.a == variable || record.b == variable)
     }
 }
 
 impl FileLanguage for Table {
-    ghost file = { λ bytes. table_language bytes };
+    ghost file = { table_language };
 
     fn empty() -> Table {
         Table {
-            records: [NONE; 256],
-            count: 0,
-            values: [0; 4096],
-            total: 0,
+            records: ArrayVec::new(),
+            values: ArrayVec::new(),
         }
     }
 
+    // The trait could give this body only if it had `read` too, and that would be longer.
     fn fill(&mut self, bytes: &[u8]) -> Result<(), DataFault> {
         *self = Table::read(bytes)?;
         Ok(())

@@ -1,5 +1,9 @@
 // A record of a table: the value at `start` + a's value × `m` + b's value.
-#[derive(Clone, Copy)]
+ghost use Rattle.table.specs.Files.{decoded};
+
+use language::FileRecord;
+
+#[derive(Clone, Copy, Debug, PartialEq, Eq, Default)]
 pub(crate) struct Record {
     pub(crate) a: u16,
     pub(crate) b: u16,
@@ -7,10 +11,12 @@ pub(crate) struct Record {
     pub(crate) start: u16,
 }
 
-// Fills a table of records where there is none yet.
-pub(crate) const NONE: Record = Record {
-    a: 0,
-    b: 0,
-    m: 1,
-    start: 0,
-};
+impl FileRecord for Record {
+    ghost decoded = { decoded };
+
+    fn decode(_k: u16, words: [u16; 4]) -> Option<Record> {
+        let [a, b, m, start] = words;
+        let ruled = a < 16 && b < 16 && (1..=256).contains(&m);
+        ruled.then_some(Record { a, b, m, start })
+    }
+}

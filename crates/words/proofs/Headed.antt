@@ -1,18 +1,12 @@
 -- A header is accepted just where the file is the one with that header. Assumes nothing.
-use Rattle.std.proofs.Common.{◌≡◌, ℕ, ◌+◌, ◌*◌, ◌/◌, ◌%◌, ◌<◌, List, [], ◌∷◌, length, get_or, drop, Ok, Result, sym, ap, ◌∙◌, arith}
+use Rattle.std.proofs.Common.{◌≡◌, ℕ, ◌+◌, ◌*◌, ◌/◌, ◌%◌, ◌<◌, List, [], ◌∷◌, length, get_or, drop, Ok, ap, arith}
 use Rattle.std.proofs.lemmas.Bool.Decides.{nat_tests}
 use Rattle.words.specs.Words.{Bytes}
 use Rattle.words.specs.Headers.{header_of, headed, Iff}
-use Rattle.words.specs.declared.header.HeaderFault.{HeaderFault}
 
 -- four bytes are those of the number that they give
 four_is : (n b c d e : ℕ) → b < 256 → c < 256 → d < 256 → e < 256 → (b * 256 + c) * 65536 + (d * 256 + e) ≡ n → (b ≡ n / 16777216) × (c ≡ n / 65536 % 256) × (d ≡ n / 256 % 256) × (e ≡ n % 256)
 four_is n b c d e lb lc ld le is = (omega arith, omega arith, omega arith, omega arith)
-
--- what the clauses of a test of the header say together
-pub record Tested (bs : List ℕ) (r : Result (Unit {0}) HeaderFault) : Type 0 where
-  pub answer : r ≡ header_of bs
-  pub rules : Iff (r ≡ Ok tt) (bs ≡ headed (drop 5 bs))
 
 accepted : (a b c d e : ℕ) (rest : List ℕ) → Bytes (a ∷ (b ∷ (c ∷ (d ∷ (e ∷ rest))))) → header_of (a ∷ (b ∷ (c ∷ (d ∷ (e ∷ rest))))) ≡ Ok tt → a ∷ (b ∷ (c ∷ (d ∷ (e ∷ rest)))) ≡ headed rest
 accepted a b c d e rest low is =
@@ -52,8 +46,3 @@ header_rules (a ∷ (b ∷ [])) low = (λ is. absurd (refused (a ∷ (b ∷ []))
 header_rules (a ∷ (b ∷ (c ∷ []))) low = (λ is. absurd (refused (a ∷ (b ∷ (c ∷ []))) (omega arith) is), λ is. absurd (short (a ∷ (b ∷ (c ∷ []))) (omega arith) is))
 header_rules (a ∷ (b ∷ (c ∷ (d ∷ [])))) low = (λ is. absurd (refused (a ∷ (b ∷ (c ∷ (d ∷ [])))) (omega arith) is), λ is. absurd (short (a ∷ (b ∷ (c ∷ (d ∷ [])))) (omega arith) is))
 header_rules (a ∷ (b ∷ (c ∷ (d ∷ (e ∷ rest))))) low = (accepted a b c d e rest low, given a b c d e rest low)
-
-pub tested : (bs : List ℕ) (r : Result (Unit {0}) HeaderFault) → Bytes bs → r ≡ header_of bs → Tested bs r
-tested bs r low is =
-    let rules = header_rules bs low in
-    record { answer = is; rules = (λ ok. rules.0 (sym is ∙ ok), λ whole. is ∙ rules.1 whole) }

@@ -2,12 +2,10 @@
 ghost use Rattle.std.specs.Prelude.{◌≡◌, drop, Ok};
 ghost use Rattle.words.specs.Headers.{header_of, headed, Iff};
 
-use crate::word::word_at;
-
 const VERSION: u8 = 1;
 
 // Why a header is refused.
-#[derive(Clone, Copy)]
+#[derive(Clone, Copy, Debug, PartialEq, Eq)]
 pub enum HeaderFault {
     // the version byte is missing or not 1
     Version,
@@ -20,15 +18,10 @@ pub fn check_header(bytes: &[u8]) -> Result<(), HeaderFault>
     ensures answer { result ≡ header_of bytes.now }
     ensures rules { Iff (result ≡ Ok tt) (bytes.now ≡ headed (drop 5 bytes.now)) }
 {
-    if bytes.len() == 0 || bytes[0] != VERSION {
-        return Err(HeaderFault::Version);
+    match *bytes {
+        [VERSION, a, b, c, d, ref rest @ ..]
+            if u32::from_be_bytes([a, b, c, d]) as usize == rest.len() => Ok(()),
+        [VERSION, ..] => Err(HeaderFault::Length),
+        _ => Err(HeaderFault::Version),
     }
-    if bytes.len() < 5 {
-        return Err(HeaderFault::Length);
-    }
-    let length = u64::from(word_at(bytes, 1)) * 65536 + u64::from(word_at(bytes, 3));
-    if length != bytes.len() as u64 - 5 {
-        return Err(HeaderFault::Length);
-    }
-    Ok(())
 }

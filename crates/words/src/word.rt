@@ -6,12 +6,7 @@ ghost use Rattle.words.specs.Words.{word_at};
 pub fn word_at(bytes: &[u8], at: usize) -> u16
     ensures answer { result ≡ word_at bytes.now at }
 {
-    if at >= bytes.len() {
-        return 0;
-    }
-    let high = u16::from(bytes[at]) * 256;
-    if at + 1 >= bytes.len() {
-        return high;
-    }
-    high + u16::from(bytes[at + 1])
+    let high = bytes.get(at).copied().unwrap_or(0);
+    let low = bytes.get(at.saturating_add(1)).copied().unwrap_or(0);
+    u16::from_be_bytes([high, low])
 }

@@ -1,7 +1,7 @@
 -- Worked examples: a queue of at most two, two equal delays, weights.
 --     file g           the model file of a flat model; its language is that of the cells beside it
 --     Worked           the equations
-use Rattle.std.specs.Prelude.{◌≡◌, ℕ, List, [], ◌∷◌, map, length, Ok, sum_by}
+use Rattle.std.specs.Prelude.{◌≡◌, ℕ, List, [], ◌∷◌, map, Ok, sum_by}
 use Rattle.language.specs.Meanings.{Meaning}
 use Rattle.formula.specs.Cells.{meaning_of}
 use Rattle.formula.specs.Files.{formula_language}
@@ -24,7 +24,7 @@ use Rattle.system.specs.Systems.{Move, Delay, total}
 use Rattle.behaviour.specs.Linearised as linearised
 
 abbrev pub language_of : List Cell → Meaning
-language_of cs = meaning_of cs (length cs)
+language_of cs = meaning_of cs
 
 abbrev pub linear_of : Meaning → List ℕ → Linear
 linear_of L bs = linearised.equation_of L (model_of (flat bs))

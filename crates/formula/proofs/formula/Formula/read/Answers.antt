@@ -1,13 +1,18 @@
-use Rattle.std.proofs.Common.{◌≡◌, ◌≤◌, length, take, Ok, arith, rules}
-use Rattle.formula.specs.Files.{formula_file}
-use Rattle.formula.proofs.Files.{read_as}
+use Rattle.std.proofs.Common.{◌≡◌, true, arith, rules}
+use Rattle.std.proofs.lemmas.Result.{IfOk-at_ok}
+use Rattle.formula.specs.Cells.{lawful}
+use Rattle.formula.proofs.Files.{cells_lawful, read_as}
 use Rattle.formula.proofs.formula.Formula.read.Goals as goal
 
-pub returns : goal.returns
-returns c =
-    let n = c.in_ok-count.count in
-    let cells = c.in_ok-cells.cells in
-    let file : formula_file c.args.bytes.now ≡ Ok (take n cells) = search rules in
-    let long : n ≤ length cells = omega arith in
-    let r = read_as c.args.bytes.now cells n long c.in_ok-cells.ensures.answer.1 (λ i. omega (arith, c.type_inv.bytes i)) file in
-    record { answer = r.0; rules = r.1 }
+pub invariant_of-result : goal.invariant_of-result
+invariant_of-result c =
+    record {
+      few = c.in_ok-cells.ensures.room;
+      ruled = IfOk-at_ok (λ cs. lawful cs ≡ true) c.in_ok-cells.ensures.answer (cells_lawful c.args.bytes.now);
+    }
+
+pub returns-clause-rules : goal.returns-clause-rules
+returns-clause-rules c =
+    let bytes = c.args.bytes.now in
+    let ok = IfOk-at_ok (λ cs. lawful cs ≡ true) c.in_ok-cells.ensures.answer (cells_lawful bytes) in
+    read_as bytes c.in_ok-cells.cells.items (λ i. omega (arith, c.type_inv.bytes i)) ok (search rules)

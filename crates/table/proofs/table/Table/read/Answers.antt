@@ -1,16 +1,17 @@
-use Rattle.std.proofs.Common.{◌≡◌, ◌≤◌, length, take, Ok, arith, rules}
-use Rattle.table.specs.Files.{table_file}
+use Rattle.std.proofs.Common.{◌≡◌, true, arith, rules}
+use Rattle.std.proofs.lemmas.Result.{IfOk-at_ok}
+use Rattle.table.specs.Records.{lawful}
 use Rattle.table.proofs.Meant.{read_as}
+use Rattle.table.proofs.Ruled.{records_lawful}
 use Rattle.table.proofs.table.Table.read.Goals as goal
 
-pub returns : goal.returns
-returns c =
-    let n = c.in_ok-count.count in
-    let t = c.in_ok-total.total in
-    let rs = c.in_ok-records.records in
-    let es = c.values-values.result in
-    let file : table_file c.args.bytes.now ≡ Ok (record { records = take n rs; values = take t es }) = search rules in
-    let few : n ≤ length rs = omega arith in
-    let short : t ≤ length es = omega arith in
-    let r = read_as c.args.bytes.now rs n es t few short (λ i. omega (arith, c.type_inv.bytes i)) file in
-    record { answer = r.0; rules = r.1 }
+pub invariant_of-result : goal.invariant_of-result
+invariant_of-result c =
+    record {
+      few = c.in_ok-records.ensures.room;
+      ruled = IfOk-at_ok (λ rs. lawful rs ≡ true) c.in_ok-records.ensures.answer (records_lawful c.args.bytes.now);
+    }
+
+pub returns-clause-rules : goal.returns-clause-rules
+returns-clause-rules c =
+    read_as c.args.bytes.now (record { records = c.in_ok-records.records.items; values = c.values-values.result.items }) (λ i. omega (arith, c.type_inv.bytes i)) (search rules)
