@@ -24,10 +24,9 @@ const VARIABLES: u16 = 16;
 fn beyond_at(model: &Model, count: u16, node: u16) -> bool
     ensures answer { result ≡ beyond_at count (flat model.now.bytes.now) node }
 {
-    match model.node(node) {
-        Some(here) => uses_beyond(count, here),
-        None => false,
-    }
+    model
+        .node(node)
+        .is_some_and(|here| uses_beyond(count, here))
 }
 
 fn strays_here<L: Language>(
@@ -39,10 +38,8 @@ fn strays_here<L: Language>(
 ) -> bool
     ensures answer { result ≡ in_node (strays (L.Language.meaning language.now) variable here) (node_in (flat model.now.bytes.now) node) }
 {
-    match model.node(node) {
-        Some(used) => names_stray(language, used, variable, here),
-        None => false,
-    }
+    let used = model.node(node);
+    used.is_some_and(|used| names_stray(language, used, variable, here))
 }
 
 // Adds the nodes at which a variable is named out of scope.
@@ -51,11 +48,9 @@ fn add_strays<L: Language>(model: &Model, language: &L, variable: u16, strays: &
 {
     let scope = scope_nodes(model, variable);
     for node in 0..256 {
-        let stray = strays_here(model, language, variable, node, scope.contains(node));
-        if !stray {
-            continue;
+        if strays_here(model, language, variable, node, scope.contains(node)) {
+            strays.insert(node);
         }
-        strays.insert(node);
     }
 }
 

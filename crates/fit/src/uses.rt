@@ -19,6 +19,8 @@ fn any_beyond(count: u16, arguments: &[u8]) -> bool
 }
 
 // Whether a node uses an expression from `count` up.
+// `source` asks each node's expressions for names in a match like this one: a test passed as a value of a trait takes
+// more lines than the match, and a closure passed to a public function would have to be callable by a `requires`.
 pub(crate) fn uses_beyond(count: u16, node: Node<'_>) -> bool
     ensures answer { result ≡ uses_beyond count (node_value node.entry) }
 {
