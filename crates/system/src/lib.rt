@@ -5,7 +5,6 @@ mod answers;
 mod playing;
 mod refusal;
 mod rows;
-mod steps;
 mod system;
 mod trail;
 mod walk;
