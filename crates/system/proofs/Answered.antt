@@ -1,6 +1,6 @@
 -- What a question that was answered says of the lists.
 use Rattle.std.proofs.Common.{◌≡◌, ℕ, ◌-◌, ◌<◌, ◌≤◌, Bool, true, false, cond, eqb, List, [], ◌++◌, length, get_or, take, drop, replicate, Some, None, Ok, Err, Option, Result, ap, ◌∙◌, arith, length-drop, length-take}
-use Rattle.std.proofs.lemmas.List.{drop-replicate, take_at}
+use Rattle.std.proofs.lemmas.List.{drop-replicate, drop_at, take-replicate, take_at}
 use Rattle.std.proofs.lemmas.Bool.{eq-eqb, ne_eqb}
 use Rattle.std.specs.List.{slice_get}
 use Rattle.std.proofs.lemmas.Option.{slice_get-get_or}
@@ -18,14 +18,16 @@ use Rattle.system.specs.declared.refusal.Refusal.TheVariants.{NoMove, NoOutcome,
 pub part_long : (row : List ℕ) (w v : ℕ) → w ≤ length row → w ≡ v → length (take (w - 0) (drop 0 row)) ≡ v
 part_long row w v h e = simp (length-take, length-drop) (omega arith)
 
+-- a row of 0s, lent in part
+module _ (w v : ℕ) (low : w ≤ widest) (is : w ≡ v) where
+  pub front_zeros : take (w - 0) (drop 0 (replicate {A = ℕ} widest 0)) ≡ replicate v 0
+  front_zeros = let e : w - 0 ≡ v = omega arith in let h : v ≤ widest = omega arith in rw e (take-replicate v widest 0 h)
+
+  pub rest_zeros : (front : List ℕ) → length front ≡ v → drop v (front ++ drop (w - 0) (replicate widest 0)) ≡ replicate {A = ℕ} (widest - v) 0
+  rest_zeros front long = let e : w - 0 ≡ v = omega arith in drop_at front (drop (w - 0) (replicate widest 0)) v long ∙ rw (e, drop-replicate)
+
 pub first_put : (m : Meaning) (buffer after : List ℕ) (r : Result Unit Refusal) → r ≡ first_answer m buffer → after ≡ put r m.start buffer → length buffer ≡ m.width → after ≡ m.start
 first_put m buffer after r gives leaves long = let e = eq-eqb _ _ long in leaves ∙ rw (gives, e)
-
--- a row of 0s whose front the first state was written to
-pub first_written : (m : Meaning) (after : List ℕ) (w : ℕ) → after ≡ m.start → w ≡ m.width → after ++ drop (w - 0) (replicate widest 0) ≡ first_row_of m
-first_written m after w e f =
-    let g : w - 0 ≡ m.width = omega arith in
-    rw (e, g, drop-replicate)
 
 -- its front is the first state
 pub first_front : (m : Meaning) (row : List ℕ) → Sound m → row ≡ first_row_of m → take m.width row ≡ m.start
