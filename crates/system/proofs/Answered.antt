@@ -26,52 +26,9 @@ module _ (w v : ℕ) (low : w ≤ widest) (is : w ≡ v) where
   pub rest_zeros : (front : List ℕ) → length front ≡ v → drop v (front ++ drop (w - 0) (replicate widest 0)) ≡ replicate {A = ℕ} (widest - v) 0
   rest_zeros front long = let e : w - 0 ≡ v = omega arith in drop_at front (drop (w - 0) (replicate widest 0)) v long ∙ rw (e, drop-replicate)
 
-pub first_put : (m : Meaning) (buffer after : List ℕ) (r : Result Unit Refusal) → r ≡ first_answer m buffer → after ≡ put r m.start buffer → length buffer ≡ m.width → after ≡ m.start
-first_put m buffer after r gives leaves long = let e = eq-eqb _ _ long in leaves ∙ rw (gives, e)
-
--- its front is the first state
+-- the front of the first row is the first state
 pub first_front : (m : Meaning) (row : List ℕ) → Sound m → row ≡ first_row_of m → take m.width row ≡ m.start
 first_front m row law e = ap (take m.width) e ∙ take_at m.start (replicate (widest - m.width) 0) m.width (law.sized m.start law.starts)
-
-module _ (n : ℕ) (label : Label) (w : Weight) (after : List ℕ) (ne : w.0 ≡ 0 → ⊥) where
-  abbrev ahead : Result Next Refusal
-  ahead = Ok (record { step = Acted label n; target = after })
-
-  abbrev found_outcome : Move → Option Outcome → Result Next Refusal
-  found_outcome v ov = found ov NoOutcome (λ o. cond (eqb o.weight 0) (Err NoOutcome) (Ok (record { step = Acted (label_of v) n; target = o.target })))
-
-  at_outcome : (v : Move) (ov : Option Outcome) → label ≡ label_of v → Ok w ≡ found ov NoOutcome (λ o. Ok (weight o.weight)) → after ≡ target_at ov → ahead ≡ found_outcome v ov
-  at_outcome v None l a t = absurd (grind arith)
-  at_outcome v (Some o) l a t =
-      let e : w ≡ weight o.weight = cc in
-      let z : eqb o.weight 0 ≡ false = ne_eqb _ _ (λ h. ne (ap (λ (y : Weight). y.0) e ∙ h)) in
-      rw (z, l, t)
-
-  at_move : (mv : Option Move) → Ok label ≡ found mv NoMove (λ v. Ok (label_of v)) → Ok w ≡ found mv NoMove (λ v. found (slice_get v.outcomes n) NoOutcome (λ o. Ok (weight o.weight))) → after ≡ target_at (slice_get (outcomes_at mv) n) → ahead ≡ found mv NoMove (λ v. found_outcome v (slice_get v.outcomes n))
-  at_move None l a t = absurd (grind arith)
-  at_move (Some v) l a t = at_outcome v (slice_get v.outcomes n) (cc) a t
-
-  at_state : (fit mem : Bool) (mv : Option Move) → Ok label ≡ within mem (found mv NoMove (λ v. Ok (label_of v))) → Ok w ≡ cond fit (within mem (found mv NoMove (λ v. found (slice_get v.outcomes n) NoOutcome (λ o. Ok (weight o.weight))))) (Err WrongBuffer) → after ≡ target_at (slice_get (outcomes_at mv) n) → ahead ≡ within mem (found mv NoMove (λ v. found_outcome v (slice_get v.outcomes n)))
-  at_state true true mv l a t = at_move mv l a t
-  at_state true false mv l a t = absurd (grind arith)
-  at_state false mem mv l a t = absurd (grind arith)
-
-  -- an outcome of positive weight that was asked for is what act goes to
-  pub acting_put : (m : Meaning) (x : List ℕ) (k : ℕ) (buffer : List ℕ) → Ok label ≡ label_answer m x k → Ok w ≡ outcome_answer m x k n buffer → after ≡ outcome_target m x k n → ahead ≡ acting m k n x
-  acting_put m x k buffer l a t = at_state (eqb (length buffer) m.width) (m.member x) (slice_get (m.moves x) k) l a t
-
-module _ (r : Rate) (after : List ℕ) where
-  abbrev ahead_delay : Result Next Refusal
-  ahead_delay = Ok (record { step = Waited r; target = after })
-
-  at_delay : (fit mem : Bool) (od : Option Delay) → Ok r ≡ cond fit (within mem (found od NoMove (λ d. Ok (rate d.rate)))) (Err WrongBuffer) → after ≡ delay_target_at od → ahead_delay ≡ within mem (found od NoMove (λ d. Ok (record { step = Waited (rate d.rate); target = d.target })))
-  at_delay true true None a t = absurd (grind arith)
-  at_delay true true (Some d) a t = let e : r ≡ rate d.rate = cc in rw (e, t)
-  at_delay true false od a t = absurd (grind arith)
-  at_delay false mem od a t = absurd (grind arith)
-
-  pub waiting_put : (m : Meaning) (ds : List ℕ → List Delay) (x : List ℕ) (k : ℕ) (buffer : List ℕ) → Ok r ≡ delay_answer m ds x k buffer → after ≡ delay_target ds x k → ahead_delay ≡ waiting m ds k x
-  waiting_put m ds x k buffer a t = at_delay (eqb (length buffer) m.width) (m.member x) (slice_get (ds x) k) a t
 
 pub delay_put : (m : Meaning) (ds : List ℕ → List Delay) (x : List ℕ) (k : ℕ) (buffer after : List ℕ) (r : Result Rate Refusal) → r ≡ delay_answer m ds x k buffer → after ≡ put r (delay_target ds x k) buffer → length buffer ≡ m.width → m.member x ≡ true → k < length (ds x) → after ≡ delay_target ds x k
 delay_put m ds x k buffer after r gives leaves long inside low =

@@ -21,12 +21,6 @@ module _ (w : ℕ) where
   abbrev pub past : List Taken → List Passed
   past ts = reverse (map (passed w) ts)
 
-  pub past_more : (ts : List Taken) (t : Taken) → past (ts ++ t ∷ []) ≡ passed w t ∷ past ts
-  past_more ts t = ap reverse (map-append (passed w) ts (t ∷ [])) ∙ reverse-append (map (passed w) ts) (passed w t ∷ [])
-
-  pub length_past : (ts : List Taken) → length (past ts) ≡ length ts
-  length_past ts = simp (length-reverse, length-map)
-
   -- the oldest first
   steps : (ts : List Taken) → trail (past ts) ≡ reverse (map (λ (t : Taken). t.step) ts)
   steps [] = refl

@@ -3,6 +3,7 @@
 
 mod answers;
 mod playing;
+mod printing;
 mod refusal;
 mod rows;
 mod system;

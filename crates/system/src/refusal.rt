@@ -2,6 +2,8 @@
 ghost use Rattle.std.specs.Prelude.{◌≡◌};
 ghost use Rattle.system.specs.Refusals.{refusal_number};
 
+use std::error::Error;
+
 #[derive(Clone, Copy, PartialEq, Eq, Debug)]
 pub enum Refusal {
     OutsideSet = 10,
@@ -12,6 +14,8 @@ pub enum Refusal {
     TrailEmpty = 15,
     TooManyStates = 17,
 }
+
+impl Error for Refusal {}
 
 impl Refusal {
     pub fn number(self) -> u16
