@@ -62,8 +62,10 @@ module _ (m : Meaning) (x : List ℕ) (k n : ℕ) (inside : m.member x ≡ true)
   pub outcome_put : (buffer after : List ℕ) (r : Result Weight Refusal) → r ≡ outcome_answer m x k n buffer → after ≡ put r (outcome_target m x k n) buffer → length buffer ≡ m.width → after ≡ asked.target
   outcome_put buffer after r gives leaves long = leaves ∙ (let h = gives ∙ asked_ok buffer long in rw h asked_target)
 
-  pub outcome_there : (buffer : List ℕ) (r : Result Weight Refusal) → r ≡ outcome_answer m x k n buffer → length buffer ≡ m.width → r ≡ Ok (weight asked.weight)
-  outcome_there buffer r gives long = gives ∙ asked_ok buffer long
+  pub outcome_refused : (buffer : List ℕ) (y : Refusal) → Err y ≡ outcome_answer m x k n buffer → length buffer ≡ m.width → ⊥
+  outcome_refused buffer y e long =
+      let f : ◌≡◌ {A = Result Weight Refusal} (Err y) (Ok (weight asked.weight)) = e ∙ asked_ok buffer long in
+      grind arith
 
 pub moves_count : (m : Meaning) (x : List ℕ) (n : ℕ) → m.member x ≡ true → Ok n ≡ move_count_answer m x → n ≡ length (m.moves x)
 moves_count m x n inside e = let f : ◌≡◌ {A = Result ℕ Refusal} (Ok n) (Ok (length (m.moves x))) = e ∙ rw inside in cc
