@@ -1,18 +1,13 @@
 -- What a question that was answered says of the lists.
-use Rattle.std.proofs.Common.{◌≡◌, ℕ, ◌-◌, ◌<◌, ◌≤◌, Bool, true, false, cond, eqb, List, [], ◌++◌, length, get_or, take, drop, replicate, Some, None, Ok, Err, Option, Result, ap, ◌∙◌, arith, length-drop, length-take}
+use Rattle.std.proofs.Common.{◌≡◌, ℕ, ◌-◌, ◌<◌, ◌≤◌, true, List, [], ◌++◌, length, get_or, take, drop, replicate, Ok, Err, Result, ap, ◌∙◌, arith, length-drop, length-take}
 use Rattle.std.proofs.lemmas.List.{drop-replicate, drop_at, take-replicate, take_at}
-use Rattle.std.proofs.lemmas.Bool.{eq-eqb, ne_eqb}
-use Rattle.std.specs.List.{slice_get}
+use Rattle.std.proofs.lemmas.Bool.{eq-eqb}
 use Rattle.std.proofs.lemmas.Option.{slice_get-get_or}
-use Rattle.system.specs.Systems.{widest, Meaning, Sound, Move, Outcome, Delay}
-use Rattle.system.specs.Questions.{first_row_of, put, found, within, first_answer, move_count_answer, outcome_count_answer, label_answer, label_of, weight, outcome_answer, outcome_target, target_at, outcomes_at, rate, delay_answer, delay_target, delay_target_at, no_outcome, no_move}
-use Rattle.system.specs.Walks.{Next, acting, waiting}
-use Rattle.system.specs.declared.answers.Label.{Label}
+use Rattle.system.specs.Systems.{widest, Meaning, Sound, Outcome, Delay}
+use Rattle.system.specs.Questions.{first_row_of, put, move_count_answer, outcome_count_answer, weight, outcome_answer, outcome_target, delay_answer, delay_target, no_outcome, no_move}
 use Rattle.system.specs.declared.answers.Weight.{Weight}
 use Rattle.system.specs.declared.answers.Rate.{Rate}
-use Rattle.system.specs.declared.answers.Step.TheVariants.{Acted, Waited}
 use Rattle.system.specs.declared.refusal.Refusal.{Refusal}
-use Rattle.system.specs.declared.refusal.Refusal.TheVariants.{NoMove, NoOutcome, WrongBuffer}
 
 -- the front of a row, as code lends it
 pub part_long : (row : List ℕ) (w v : ℕ) → w ≤ length row → w ≡ v → length (take (w - 0) (drop 0 row)) ≡ v

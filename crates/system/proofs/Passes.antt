@@ -1,12 +1,11 @@
 -- What a trail's steps stand for, read and written.
 use Rattle.std.proofs.Common.{◌≡◌, ℕ, suc, ◌<◌, ◌≤◌, List, [], ◌∷◌, ◌++◌, map, reverse, length, get_or, None, Some, refl, sym, ap, ◌∙◌}
-use Rattle.std.proofs.lemmas.List.{length-map, map-append, reverse-append, reverse-reverse, length-reverse}
+use Rattle.std.proofs.lemmas.List.{reverse-append, reverse-reverse}
 use Rattle.std.proofs.lemmas.Option.{slice_get-get_or, slice_get-map, slice_get_past}
 use Rattle.std.specs.List.{slice_get}
 use Rattle.std.specs.Option.{option_map}
 use Rattle.system.specs.Walks.{Passed, trail, step_at}
 use Rattle.system.specs.Trails.{passed}
-use Rattle.system.specs.declared.answers.Step.{Step}
 use Rattle.system.specs.declared.trail.Taken.{Taken}
 
 pub length_trail : (ps : List Passed) → length (trail ps) ≡ length ps

@@ -1,4 +1,4 @@
-use Rattle.std.proofs.Common.{◌≡◌, ◌<◌, ◌≤◌, length, get_or, ◌∙◌, arith, rules}
+use Rattle.std.proofs.Common.{◌≡◌, ◌<◌, ◌≤◌, length, get_or, ◌∙◌, rules}
 use Rattle.system.proofs.Passes.{step_there, step_none}
 use Rattle.system.proofs.trail.Trail.step.Goals as goal
 
