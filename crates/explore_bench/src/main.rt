@@ -15,10 +15,7 @@ fn explore_pools(rt: &HostRuntime, fast: u16, slow: u16) -> anyhow::Result<()> {
     let mut rows = vec![in rt.alloc(); 0u16; states * 2]?;
     match explore(&system, &mut rows, rt.alloc()) {
         Ok(count) => println!(rt; "{fast} x {slow}: {count} states")?,
-        Err(refusal) => {
-            let number = refusal.number();
-            println!(rt; "{fast} x {slow}: refused {number}")?;
-        }
+        Err(refusal) => println!(rt; "{fast} x {slow}: {refusal}")?,
     }
     Ok(())
 }

@@ -1,5 +1,5 @@
 // Two pools of servers behind one balancer: a state says how many of each are busy.
-ghost use Rattle.std.specs.Prelude.{◌≡◌, ◌<◌, ◌≤◌, [], ◌∷◌, length};
+ghost use Rattle.std.specs.Prelude.{◌≡◌, ◌==◌, ◌<◌, ◌≤◌, [], ◌∷◌, cond, length, slice_index, Ok, Err};
 ghost use Rattle.explore_bench.specs.Pooling.{busier, calmer, in_pools, pools, pools_delays};
 ghost use Rattle.std.proofs.Common.{rules};
 
@@ -26,10 +26,14 @@ impl Pools {
         Some(Pools { fast, slow })
     }
 
-    fn is_state(&self, state: &[u16]) -> bool
-        ensures { result ≡ in_pools self.now.fast self.now.slow state.now }
+    // How many servers are busy in each pool.
+    fn busy(&self, state: &[u16]) -> Result<(u16, u16), Refusal>
+        ensures { result ≡ cond (in_pools self.now.fast self.now.slow state.now) (Ok (slice_index state.now 0, slice_index state.now 1)) (Err Refusal.OutsideSet) }
     {
-        state.len() == WIDTH && state[0] < self.fast && state[1] < self.slow
+        match state {
+            [fast, slow] if *fast < self.fast && *slow < self.slow => Ok((*fast, *slow)),
+            _ => Err(Refusal::OutsideSet),
+        }
     }
 }
 
@@ -39,7 +43,7 @@ fn more(busy: u16, size: u16) -> u16
     ensures is { result ≡ busier size busy }
     ensures low { result < size }
 {
-    if busy + 1 < size { busy + 1 } else { busy }
+    (busy + 1).min(size - 1)
 }
 
 // One fewer is busy, if any is.
@@ -47,15 +51,18 @@ fn fewer(busy: u16) -> u16
     ensures is { result ≡ calmer busy }
     ensures low { result ≤ busy }
 {
-    if busy == 0 { 0 } else { busy - 1 }
+    busy.saturating_sub(1)
 }
 
-fn put(target: &mut [u16], fast: u16, slow: u16)
-    requires { length target.old ≡ 2 }
-    ensures { target.new ≡ fast ∷ (slow ∷ []) }
+// Refuses a buffer of another width.
+fn fit(target: &[u16]) -> Result<(), Refusal>
+    ensures { result ≡ cond (length target.now == 2) (Ok tt) (Err Refusal.WrongBuffer) }
 {
-    target[0] = fast;
-    target[1] = slow;
+    if target.len() == WIDTH {
+        Ok(())
+    } else {
+        Err(Refusal::WrongBuffer)
+    }
 }
 
 impl System for Pools {
@@ -68,43 +75,31 @@ impl System for Pools {
     }
 
     fn first(&self, target: &mut [u16]) -> Result<(), Refusal> {
-        if target.len() != WIDTH {
-            return Err(Refusal::WrongBuffer);
-        }
-        put(target, 0, 0);
+        fit(target)?;
+        target.copy_from_slice(&[0, 0]);
         Ok(())
     }
 
     fn move_count(&self, state: &[u16]) -> Result<u64, Refusal> {
-        if self.is_state(state) {
-            Ok(1)
-        } else {
-            Err(Refusal::OutsideSet)
-        }
+        self.busy(state)?;
+        Ok(1)
     }
 
     fn label(&self, state: &[u16], k: u64) -> Result<Label, Refusal> {
-        if !self.is_state(state) {
-            return Err(Refusal::OutsideSet);
-        }
+        self.busy(state)?;
         if k != 0 {
             return Err(Refusal::NoMove);
         }
         Ok(Label {
             action: 1,
             count: 0,
-            values: [0, 0, 0, 0],
+            values: [0; 4],
         })
     }
 
     fn outcome_count(&self, state: &[u16], k: u64) -> Result<u64, Refusal> {
-        if !self.is_state(state) {
-            return Err(Refusal::OutsideSet);
-        }
-        if k != 0 {
-            return Err(Refusal::NoMove);
-        }
-        Ok(2)
+        self.busy(state)?;
+        if k == 0 { Ok(2) } else { Err(Refusal::NoMove) }
     }
 
     fn outcome(
@@ -114,24 +109,16 @@ impl System for Pools {
         n: u64,
         target: &mut [u16],
     ) -> Result<Weight, Refusal> {
-        if target.len() != WIDTH {
-            return Err(Refusal::WrongBuffer);
-        }
-        if !self.is_state(state) {
-            return Err(Refusal::OutsideSet);
-        }
-        if k != 0 {
-            return Err(Refusal::NoMove);
-        }
-        if n == 0 {
-            put(target, more(state[0], self.fast), state[1]);
-            Ok(Weight(2))
-        } else if n == 1 {
-            put(target, state[0], more(state[1], self.slow));
-            Ok(Weight(1))
-        } else {
-            Err(Refusal::NoOutcome)
-        }
+        fit(target)?;
+        let (fast, slow) = self.busy(state)?;
+        let (weight, next) = match (k, n) {
+            (0, 0) => (2, [more(fast, self.fast), slow]),
+            (0, 1) => (1, [fast, more(slow, self.slow)]),
+            (0, _) => return Err(Refusal::NoOutcome),
+            _ => return Err(Refusal::NoMove),
+        };
+        target.copy_from_slice(&next);
+        Ok(Weight(weight))
     }
 }
 
@@ -141,28 +128,19 @@ impl Markov for Pools {
     ghost waits = { Prim.search rules };
 
     fn delay_count(&self, state: &[u16]) -> Result<u64, Refusal> {
-        if self.is_state(state) {
-            Ok(2)
-        } else {
-            Err(Refusal::OutsideSet)
-        }
+        self.busy(state)?;
+        Ok(2)
     }
 
     fn delay(&self, state: &[u16], k: u64, target: &mut [u16]) -> Result<Rate, Refusal> {
-        if target.len() != WIDTH {
-            return Err(Refusal::WrongBuffer);
-        }
-        if !self.is_state(state) {
-            return Err(Refusal::OutsideSet);
-        }
-        if k == 0 {
-            put(target, fewer(state[0]), state[1]);
-            Ok(Rate(5))
-        } else if k == 1 {
-            put(target, state[0], fewer(state[1]));
-            Ok(Rate(3))
-        } else {
-            Err(Refusal::NoMove)
-        }
+        fit(target)?;
+        let (fast, slow) = self.busy(state)?;
+        let (rate, next) = match k {
+            0 => (5, [fewer(fast), slow]),
+            1 => (3, [fast, fewer(slow)]),
+            _ => return Err(Refusal::NoMove),
+        };
+        target.copy_from_slice(&next);
+        Ok(Rate(rate))
     }
 }

@@ -1,75 +1,29 @@
 -- What a question that was answered says of the lists.
-use Rattle.std.proofs.Common.{◌≡◌, ℕ, ◌-◌, ◌<◌, ◌≤◌, Bool, true, false, cond, eqb, List, [], ◌++◌, length, get_or, take, drop, replicate, Some, None, Ok, Err, Option, Result, ap, ◌∙◌, arith, length-drop, length-take}
-use Rattle.std.proofs.lemmas.List.{drop-replicate, take_at}
-use Rattle.std.proofs.lemmas.Bool.{eq-eqb, ne_eqb}
-use Rattle.std.specs.List.{slice_get}
+use Rattle.std.proofs.Common.{◌≡◌, ℕ, ◌-◌, ◌<◌, ◌≤◌, true, List, [], ◌++◌, length, get_or, take, drop, replicate, Ok, Err, Result, ap, ◌∙◌, arith, length-drop, length-take}
+use Rattle.std.proofs.lemmas.List.{drop-replicate, drop_at, take-replicate, take_at}
+use Rattle.std.proofs.lemmas.Bool.{eq-eqb}
 use Rattle.std.proofs.lemmas.Option.{slice_get-get_or}
-use Rattle.system.specs.Systems.{widest, Meaning, Sound, Move, Outcome, Delay}
-use Rattle.system.specs.Questions.{first_row_of, put, found, within, first_answer, move_count_answer, outcome_count_answer, label_answer, label_of, weight, outcome_answer, outcome_target, target_at, outcomes_at, rate, delay_answer, delay_target, delay_target_at, no_outcome, no_move}
-use Rattle.system.specs.Walks.{Next, acting, waiting}
-use Rattle.system.specs.declared.answers.Label.{Label}
+use Rattle.system.specs.Systems.{widest, Meaning, Sound, Outcome, Delay}
+use Rattle.system.specs.Questions.{first_row_of, put, move_count_answer, outcome_count_answer, weight, outcome_answer, outcome_target, delay_answer, delay_target, no_outcome, no_move}
 use Rattle.system.specs.declared.answers.Weight.{Weight}
 use Rattle.system.specs.declared.answers.Rate.{Rate}
-use Rattle.system.specs.declared.answers.Step.TheVariants.{Acted, Waited}
 use Rattle.system.specs.declared.refusal.Refusal.{Refusal}
-use Rattle.system.specs.declared.refusal.Refusal.TheVariants.{NoMove, NoOutcome, WrongBuffer}
 
 -- the front of a row, as code lends it
 pub part_long : (row : List ℕ) (w v : ℕ) → w ≤ length row → w ≡ v → length (take (w - 0) (drop 0 row)) ≡ v
 part_long row w v h e = simp (length-take, length-drop) (omega arith)
 
-pub first_put : (m : Meaning) (buffer after : List ℕ) (r : Result Unit Refusal) → r ≡ first_answer m buffer → after ≡ put r m.start buffer → length buffer ≡ m.width → after ≡ m.start
-first_put m buffer after r gives leaves long = let e = eq-eqb _ _ long in leaves ∙ rw (gives, e)
+-- a row of 0s, lent in part
+module _ (w v : ℕ) (low : w ≤ widest) (is : w ≡ v) where
+  pub front_zeros : take (w - 0) (drop 0 (replicate {A = ℕ} widest 0)) ≡ replicate v 0
+  front_zeros = let e : w - 0 ≡ v = omega arith in let h : v ≤ widest = omega arith in rw e (take-replicate v widest 0 h)
 
--- a row of 0s whose front the first state was written to
-pub first_written : (m : Meaning) (after : List ℕ) (w : ℕ) → after ≡ m.start → w ≡ m.width → after ++ drop (w - 0) (replicate widest 0) ≡ first_row_of m
-first_written m after w e f =
-    let g : w - 0 ≡ m.width = omega arith in
-    rw (e, g, drop-replicate)
+  pub rest_zeros : (front : List ℕ) → length front ≡ v → drop v (front ++ drop (w - 0) (replicate widest 0)) ≡ replicate {A = ℕ} (widest - v) 0
+  rest_zeros front long = let e : w - 0 ≡ v = omega arith in drop_at front (drop (w - 0) (replicate widest 0)) v long ∙ rw (e, drop-replicate)
 
--- its front is the first state
+-- the front of the first row is the first state
 pub first_front : (m : Meaning) (row : List ℕ) → Sound m → row ≡ first_row_of m → take m.width row ≡ m.start
 first_front m row law e = ap (take m.width) e ∙ take_at m.start (replicate (widest - m.width) 0) m.width (law.sized m.start law.starts)
-
-module _ (n : ℕ) (label : Label) (w : Weight) (after : List ℕ) (ne : w.0 ≡ 0 → ⊥) where
-  abbrev ahead : Result Next Refusal
-  ahead = Ok (record { step = Acted label n; target = after })
-
-  abbrev found_outcome : Move → Option Outcome → Result Next Refusal
-  found_outcome v ov = found ov NoOutcome (λ o. cond (eqb o.weight 0) (Err NoOutcome) (Ok (record { step = Acted (label_of v) n; target = o.target })))
-
-  at_outcome : (v : Move) (ov : Option Outcome) → label ≡ label_of v → Ok w ≡ found ov NoOutcome (λ o. Ok (weight o.weight)) → after ≡ target_at ov → ahead ≡ found_outcome v ov
-  at_outcome v None l a t = absurd (grind arith)
-  at_outcome v (Some o) l a t =
-      let e : w ≡ weight o.weight = cc in
-      let z : eqb o.weight 0 ≡ false = ne_eqb _ _ (λ h. ne (ap (λ (y : Weight). y.0) e ∙ h)) in
-      rw (z, l, t)
-
-  at_move : (mv : Option Move) → Ok label ≡ found mv NoMove (λ v. Ok (label_of v)) → Ok w ≡ found mv NoMove (λ v. found (slice_get v.outcomes n) NoOutcome (λ o. Ok (weight o.weight))) → after ≡ target_at (slice_get (outcomes_at mv) n) → ahead ≡ found mv NoMove (λ v. found_outcome v (slice_get v.outcomes n))
-  at_move None l a t = absurd (grind arith)
-  at_move (Some v) l a t = at_outcome v (slice_get v.outcomes n) (cc) a t
-
-  at_state : (fit mem : Bool) (mv : Option Move) → Ok label ≡ within mem (found mv NoMove (λ v. Ok (label_of v))) → Ok w ≡ cond fit (within mem (found mv NoMove (λ v. found (slice_get v.outcomes n) NoOutcome (λ o. Ok (weight o.weight))))) (Err WrongBuffer) → after ≡ target_at (slice_get (outcomes_at mv) n) → ahead ≡ within mem (found mv NoMove (λ v. found_outcome v (slice_get v.outcomes n)))
-  at_state true true mv l a t = at_move mv l a t
-  at_state true false mv l a t = absurd (grind arith)
-  at_state false mem mv l a t = absurd (grind arith)
-
-  -- an outcome of positive weight that was asked for is what act goes to
-  pub acting_put : (m : Meaning) (x : List ℕ) (k : ℕ) (buffer : List ℕ) → Ok label ≡ label_answer m x k → Ok w ≡ outcome_answer m x k n buffer → after ≡ outcome_target m x k n → ahead ≡ acting m k n x
-  acting_put m x k buffer l a t = at_state (eqb (length buffer) m.width) (m.member x) (slice_get (m.moves x) k) l a t
-
-module _ (r : Rate) (after : List ℕ) where
-  abbrev ahead_delay : Result Next Refusal
-  ahead_delay = Ok (record { step = Waited r; target = after })
-
-  at_delay : (fit mem : Bool) (od : Option Delay) → Ok r ≡ cond fit (within mem (found od NoMove (λ d. Ok (rate d.rate)))) (Err WrongBuffer) → after ≡ delay_target_at od → ahead_delay ≡ within mem (found od NoMove (λ d. Ok (record { step = Waited (rate d.rate); target = d.target })))
-  at_delay true true None a t = absurd (grind arith)
-  at_delay true true (Some d) a t = let e : r ≡ rate d.rate = cc in rw (e, t)
-  at_delay true false od a t = absurd (grind arith)
-  at_delay false mem od a t = absurd (grind arith)
-
-  pub waiting_put : (m : Meaning) (ds : List ℕ → List Delay) (x : List ℕ) (k : ℕ) (buffer : List ℕ) → Ok r ≡ delay_answer m ds x k buffer → after ≡ delay_target ds x k → ahead_delay ≡ waiting m ds k x
-  waiting_put m ds x k buffer a t = at_delay (eqb (length buffer) m.width) (m.member x) (slice_get (ds x) k) a t
 
 pub delay_put : (m : Meaning) (ds : List ℕ → List Delay) (x : List ℕ) (k : ℕ) (buffer after : List ℕ) (r : Result Rate Refusal) → r ≡ delay_answer m ds x k buffer → after ≡ put r (delay_target ds x k) buffer → length buffer ≡ m.width → m.member x ≡ true → k < length (ds x) → after ≡ delay_target ds x k
 delay_put m ds x k buffer after r gives leaves long inside low =
@@ -103,8 +57,10 @@ module _ (m : Meaning) (x : List ℕ) (k n : ℕ) (inside : m.member x ≡ true)
   pub outcome_put : (buffer after : List ℕ) (r : Result Weight Refusal) → r ≡ outcome_answer m x k n buffer → after ≡ put r (outcome_target m x k n) buffer → length buffer ≡ m.width → after ≡ asked.target
   outcome_put buffer after r gives leaves long = leaves ∙ (let h = gives ∙ asked_ok buffer long in rw h asked_target)
 
-  pub outcome_there : (buffer : List ℕ) (r : Result Weight Refusal) → r ≡ outcome_answer m x k n buffer → length buffer ≡ m.width → r ≡ Ok (weight asked.weight)
-  outcome_there buffer r gives long = gives ∙ asked_ok buffer long
+  pub outcome_refused : (buffer : List ℕ) (y : Refusal) → Err y ≡ outcome_answer m x k n buffer → length buffer ≡ m.width → ⊥
+  outcome_refused buffer y e long =
+      let f : ◌≡◌ {A = Result Weight Refusal} (Err y) (Ok (weight asked.weight)) = e ∙ asked_ok buffer long in
+      grind arith
 
 pub moves_count : (m : Meaning) (x : List ℕ) (n : ℕ) → m.member x ≡ true → Ok n ≡ move_count_answer m x → n ≡ length (m.moves x)
 moves_count m x n inside e = let f : ◌≡◌ {A = Result ℕ Refusal} (Ok n) (Ok (length (m.moves x))) = e ∙ rw inside in cc

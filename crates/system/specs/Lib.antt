@@ -4,3 +4,4 @@ pub mod Questions
 pub mod Walks
 pub mod Reaching
 pub mod Trails
+pub mod Texts

@@ -3,9 +3,9 @@
 
 mod answers;
 mod playing;
+mod printing;
 mod refusal;
 mod rows;
-mod steps;
 mod system;
 mod trail;
 mod walk;

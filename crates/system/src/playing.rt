@@ -9,7 +9,8 @@ use crate::refusal::Refusal;
 use crate::system::Markov;
 use crate::walk::Walk;
 
-// Puts an answer at place i, if there is one.
+// Puts an answer at place i, if there is one. A proof knows nothing of the elements after a write
+// through `get_mut`, nor after `zip` with `iter_mut`, so the place is written by its index.
 fn note(answers: &mut [Result<(), Refusal>], i: usize, answer: Result<(), Refusal>)
     ensures leaves { answers.new ≡ slice_set answers.old i answer }
 {

@@ -2,29 +2,25 @@
 ghost use Rattle.std.specs.Prelude.{◌≡◌};
 ghost use Rattle.system.specs.Refusals.{refusal_number};
 
-#[derive(Clone, Copy)]
+use std::error::Error;
+
+#[derive(Clone, Copy, PartialEq, Eq, Debug)]
 pub enum Refusal {
-    OutsideSet,
-    NoMove,
-    NoOutcome,
-    WrongBuffer,
-    TrailFull,
-    TrailEmpty,
-    TooManyStates,
+    OutsideSet = 10,
+    NoMove = 11,
+    NoOutcome = 12,
+    WrongBuffer = 13,
+    TrailFull = 14,
+    TrailEmpty = 15,
+    TooManyStates = 17,
 }
+
+impl Error for Refusal {}
 
 impl Refusal {
     pub fn number(self) -> u16
         ensures answer { result ≡ refusal_number self }
     {
-        match self {
-            Refusal::OutsideSet => 10,
-            Refusal::NoMove => 11,
-            Refusal::NoOutcome => 12,
-            Refusal::WrongBuffer => 13,
-            Refusal::TrailFull => 14,
-            Refusal::TrailEmpty => 15,
-            Refusal::TooManyStates => 17,
-        }
+        self as u16
     }
 }

@@ -1,5 +1,6 @@
 // What a system's questions answer, in rows of 64 words: a state, and 0 after it.
-ghost use Rattle.std.specs.Prelude.{◌≡◌};
+ghost use Rattle.std.specs.Prelude.{◌≡◌, ◌-◌, length, take, drop, replicate};
+ghost use Rattle.std.specs.Fn.{FnOnceReturnsAtMut};
 ghost use Rattle.system.specs.Questions.{first_row_of};
 ghost use Rattle.system.specs.Walks.{acting, waiting};
 ghost use Rattle.system.specs.Trails.{seen};
@@ -15,12 +16,22 @@ pub(crate) struct Ahead {
     pub(crate) row: [u16; 64],
 }
 
-pub fn first_row<S: System>(system: &S) -> [u16; 64]
-    ensures answer { result ≡ first_row_of (S.System.meaning system.now) }
+// A question's answer, and the row whose first words it was lent.
+fn asked<S: System, T, F: FnOnce(&mut [u16]) -> T>(system: &S, question: F) -> (T, [u16; 64])
+    requires { F.IsAlwaysCallable question }
+    ensures put { let w = (S.System.meaning system.now).width in FnOnceReturnsAtMut F.FnOnce question (replicate w 0) result.0 (take w result.1) }
+    ensures rest { let w = (S.System.meaning system.now).width in drop w result.1 ≡ replicate (64 - w) 0 }
 {
     let width = system.width();
     let mut row = [0u16; 64];
-    let _ = system.first(&mut row[0..width]);
+    let answer = question(&mut row[0..width]);
+    (answer, row)
+}
+
+pub fn first_row<S: System>(system: &S) -> [u16; 64]
+    ensures answer { result ≡ first_row_of (S.System.meaning system.now) }
+{
+    let (_, row) = asked(system, |target| system.first(target));
     row
 }
 
@@ -29,10 +40,8 @@ pub(crate) fn acted<S: System>(system: &S, here: &[u16], k: u64, n: u64) -> Resu
     ensures answer { seen (S.System.meaning system.now).width result ≡ acting (S.System.meaning system.now) k n here.now }
 {
     let label = system.label(here, k)?;
-    let width = system.width();
-    let mut row = [0u16; 64];
-    let weight = system.outcome(here, k, n, &mut row[0..width])?;
-    if weight.0 == 0 {
+    let (weight, row) = asked(system, |target| system.outcome(here, k, n, target));
+    if weight?.0 == 0 {
         return Err(Refusal::NoOutcome);
     }
     Ok(Ahead {
@@ -45,11 +54,9 @@ pub(crate) fn acted<S: System>(system: &S, here: &[u16], k: u64, n: u64) -> Resu
 pub(crate) fn waited<S: Markov>(system: &S, here: &[u16], k: u64) -> Result<Ahead, Refusal>
     ensures answer { seen (S.System.meaning system.now).width result ≡ waiting (S.System.meaning system.now) (S.Markov.delays system.now) k here.now }
 {
-    let width = system.width();
-    let mut row = [0u16; 64];
-    let rate = system.delay(here, k, &mut row[0..width])?;
+    let (rate, row) = asked(system, |target| system.delay(here, k, target));
     Ok(Ahead {
-        step: Step::Waited(rate),
+        step: Step::Waited(rate?),
         row,
     })
 }

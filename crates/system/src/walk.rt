@@ -41,7 +41,7 @@ impl<S: Markov> Walk<S> {
     pub fn trail_length(&self) -> usize
         ensures answer { result ≡ length (course (S.System.meaning self.now.system).width self.now.trail).past }
     {
-        self.trail.depth
+        self.trail.len()
     }
 
     // Step i, the oldest being 0.

@@ -1,9 +1,10 @@
 -- A layer that renames an action keeps what a system owes, and its answers.
-use Rattle.std.specs.Prelude.{◌≡◌, ℕ, zero, suc, ◌<◌, Bool, true, false, List, [], ◌∷◌, map, length, Some, None, Ok, Err, Option, Result, ◌==◌, ◌≢◌, nat_eq, refl}
+use Rattle.std.specs.Prelude.{◌≡◌, ℕ, ◌<◌, Bool, true, false, List, length, Some, None, Ok, Err, Option, Result, ◌==◌, ◌≢◌, nat_eq, refl}
 use Rattle.std.proofs.Common.{sym, ap, ◌∙◌, arith}
 use Rattle.std.proofs.ByRecursion.{All-map, All-weaker}
 use Rattle.std.proofs.lemmas.List.{length-map}
 use Rattle.std.proofs.lemmas.Bool.{eq-eqb, ne_eqb, cond_both}
+use Rattle.std.proofs.lemmas.Option.{slice_get-map}
 use Rattle.std.specs.List.{slice_get}
 use Rattle.std.specs.Option.{option_map}
 use Rattle.system.specs.Systems.{Meaning, Move, Outcome, FairMove, Sound}
@@ -13,11 +14,6 @@ use Rattle.system.specs.declared.answers.Weight.{Weight}
 use Rattle.system.specs.declared.refusal.Refusal.{Refusal}
 use Rattle.system.specs.declared.refusal.Refusal.TheVariants.{NoMove, NoOutcome}
 use Rattle.system_example.specs.Renamings.{rename_move, renamed}
-
-nth_map : (f : Move → Move) (xs : List Move) (k : ℕ) → slice_get (map f xs) k ≡ option_map f (slice_get xs k)
-nth_map f [] k = refl
-nth_map f (x ∷ xs) zero = refl
-nth_map f (x ∷ xs) (suc k) = nth_map f xs k
 
 module _ (a b : ℕ) (low : b < 64) where
   rename_fair : (member : List ℕ → Bool) (v : Move) → FairMove member v → FairMove member (rename_move a b v)
@@ -49,21 +45,21 @@ module _ (a b : ℕ) (m : Meaning) (x : List ℕ) where
   outcomes_found (Some v) = refl
 
   pub rename_outcomes : (k : ℕ) → outcome_count_answer m x k ≡ outcome_count_answer (renamed a b m) x k
-  rename_outcomes k = rw nth_map (ap (within (m.member x)) (outcomes_found (slice_get (m.moves x) k)))
+  rename_outcomes k = rw slice_get-map (ap (within (m.member x)) (outcomes_found (slice_get (m.moves x) k)))
 
   at_same : (mv : Option Move) → outcomes_at mv ≡ outcomes_at (option_map (rename_move a b) mv)
   at_same None = refl
   at_same (Some v) = refl
 
   pub rename_target : (k n : ℕ) → outcome_target m x k n ≡ outcome_target (renamed a b m) x k n
-  rename_target k n = rw nth_map (ap (λ (os : List Outcome). target_at (slice_get os n)) (at_same (slice_get (m.moves x) k)))
+  rename_target k n = rw slice_get-map (ap (λ (os : List Outcome). target_at (slice_get os n)) (at_same (slice_get (m.moves x) k)))
 
   weights_found : (n : ℕ) (mv : Option Move) → found {Y = Weight} mv NoMove (λ v. found (slice_get v.outcomes n) NoOutcome (λ o. Ok (weight o.weight))) ≡ found (option_map (rename_move a b) mv) NoMove (λ v. found (slice_get v.outcomes n) NoOutcome (λ o. Ok (weight o.weight)))
   weights_found n None = refl
   weights_found n (Some v) = refl
 
   pub rename_outcome : (k n : ℕ) (buffer : List ℕ) → outcome_answer m x k n buffer ≡ outcome_answer (renamed a b m) x k n buffer
-  rename_outcome k n buffer = rw nth_map (ap (λ r. fitting m buffer (within (m.member x) r)) (weights_found n (slice_get (m.moves x) k)))
+  rename_outcome k n buffer = rw slice_get-map (ap (λ r. fitting m buffer (within (m.member x) r)) (weights_found n (slice_get (m.moves x) k)))
 
   -- a label that is renamed, one that is kept, and none
   abbrev relabelled : Label → Label
@@ -78,7 +74,7 @@ module _ (a b : ℕ) (m : Meaning) (x : List ℕ) where
       rw t (ap Ok (ap relabelled f))
 
   pub rename_new : (k : ℕ) (l : Label) → Ok l ≡ label_answer m x k → l.action ≡ a → Ok (relabelled l) ≡ label_answer (renamed a b m) x k
-  rename_new k l e h = rw nth_map (new_label l (m.member x) (slice_get (m.moves x) k) e h)
+  rename_new k l e h = rw slice_get-map (new_label l (m.member x) (slice_get (m.moves x) k) e h)
 
   same_label : (l : Label) (s : Bool) (mv : Option Move) → Ok l ≡ within s (found mv NoMove (λ v. Ok (label_of v))) → (l.action ≢ a) → Ok l ≡ within s (found (option_map (rename_move a b) mv) NoMove (λ v. Ok (label_of v)))
   same_label l false mv e h = absurd (grind arith)
@@ -89,7 +85,7 @@ module _ (a b : ℕ) (m : Meaning) (x : List ℕ) where
       rw t e
 
   pub rename_kept : (k : ℕ) (l : Label) → Ok l ≡ label_answer m x k → (l.action ≢ a) → Ok l ≡ label_answer (renamed a b m) x k
-  rename_kept k l e h = rw nth_map (same_label l (m.member x) (slice_get (m.moves x) k) e h)
+  rename_kept k l e h = rw slice_get-map (same_label l (m.member x) (slice_get (m.moves x) k) e h)
 
   no_label : (y : Refusal) (s : Bool) (mv : Option Move) → Err y ≡ within {Y = Label} s (found mv NoMove (λ v. Ok (label_of v))) → Err y ≡ within {Y = Label} s (found (option_map (rename_move a b) mv) NoMove (λ v. Ok (label_of v)))
   no_label y false mv e = e
@@ -97,4 +93,4 @@ module _ (a b : ℕ) (m : Meaning) (x : List ℕ) where
   no_label y true (Some v) e = absurd (grind arith)
 
   pub rename_refused : (k : ℕ) (y : Refusal) (r : Result Label Refusal) → r ≡ Err y → Err y ≡ label_answer m x k → r ≡ label_answer (renamed a b m) x k
-  rename_refused k y r is e = is ∙ rw nth_map (no_label y (m.member x) (slice_get (m.moves x) k) e)
+  rename_refused k y r is e = is ∙ rw slice_get-map (no_label y (m.member x) (slice_get (m.moves x) k) e)

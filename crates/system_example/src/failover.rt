@@ -1,5 +1,5 @@
 // A primary server with a standby: a state says whether each is up.
-ghost use Rattle.std.specs.Prelude.{◌≡◌, [], ◌∷◌, length};
+ghost use Rattle.std.specs.Prelude.{◌≡◌, ◌==◌, [], cond, length, ok_or, Ok, Err};
 ghost use Rattle.system.specs.Questions.{label_of};
 ghost use Rattle.system_example.specs.Failovers.{failover, failover_delays, mode_of, promoting, routing, words_of};
 ghost use Rattle.std.proofs.Common.{rules};
@@ -16,37 +16,46 @@ pub(crate) enum Mode {
     Neither,
 }
 
-fn mode_of(state: &[u16]) -> Option<Mode>
-    ensures { result ≡ mode_of state.now }
-{
-    if state.len() != WIDTH {
-        return None;
-    }
-    match (state[0], state[1]) {
-        (1, 1) => Some(Mode::Both),
-        (0, 1) => Some(Mode::Standby),
-        (0, 0) => Some(Mode::Neither),
-        _ => None,
+impl Mode {
+    // The first word says whether the primary is up, the second the standby.
+    fn words(self) -> [u16; 2]
+        ensures { result ≡ words_of self }
+    {
+        match self {
+            Mode::Both => [1, 1],
+            Mode::Standby => [0, 1],
+            Mode::Neither => [0, 0],
+        }
     }
 }
 
-fn put_words(target: &mut [u16], primary: u16, standby: u16)
-    requires { length target.old ≡ 2 }
-    ensures { target.new ≡ primary ∷ (standby ∷ []) }
+fn mode_of(state: &[u16]) -> Result<Mode, Refusal>
+    ensures { result ≡ ok_or (mode_of state.now) Refusal.OutsideSet }
 {
-    target[0] = primary;
-    target[1] = standby;
+    match state {
+        [1, 1] => Ok(Mode::Both),
+        [0, 1] => Ok(Mode::Standby),
+        [0, 0] => Ok(Mode::Neither),
+        _ => Err(Refusal::OutsideSet),
+    }
+}
+
+// Refuses a buffer of another width.
+fn fit(target: &[u16]) -> Result<(), Refusal>
+    ensures { result ≡ cond (length target.now == 2) (Ok tt) (Err Refusal.WrongBuffer) }
+{
+    if target.len() == WIDTH {
+        Ok(())
+    } else {
+        Err(Refusal::WrongBuffer)
+    }
 }
 
 fn put(target: &mut [u16], mode: Mode)
     requires { length target.old ≡ 2 }
     ensures { target.new ≡ words_of mode }
 {
-    match mode {
-        Mode::Both => put_words(target, 1, 1),
-        Mode::Standby => put_words(target, 0, 1),
-        Mode::Neither => put_words(target, 0, 0),
-    }
+    target.copy_from_slice(&mode.words());
 }
 
 // Requests go to the primary, or to the standby once the primary is down.
@@ -84,27 +93,21 @@ impl System for Failover {
     }
 
     fn first(&self, target: &mut [u16]) -> Result<(), Refusal> {
-        if target.len() != WIDTH {
-            return Err(Refusal::WrongBuffer);
-        }
+        fit(target)?;
         put(target, Mode::Both);
         Ok(())
     }
 
     fn move_count(&self, state: &[u16]) -> Result<u64, Refusal> {
-        match mode_of(state) {
-            Some(Mode::Both) => Ok(1),
-            Some(Mode::Standby) => Ok(2),
-            Some(Mode::Neither) => Ok(0),
-            None => Err(Refusal::OutsideSet),
-        }
+        Ok(match mode_of(state)? {
+            Mode::Both => 1,
+            Mode::Standby => 2,
+            Mode::Neither => 0,
+        })
     }
 
     fn label(&self, state: &[u16], k: u64) -> Result<Label, Refusal> {
-        let Some(mode) = mode_of(state) else {
-            return Err(Refusal::OutsideSet);
-        };
-        match (mode, k) {
+        match (mode_of(state)?, k) {
             (Mode::Both, 0) => Ok(route(0)),
             (Mode::Standby, 0) => Ok(route(1)),
             (Mode::Standby, 1) => Ok(promote()),
@@ -113,10 +116,7 @@ impl System for Failover {
     }
 
     fn outcome_count(&self, state: &[u16], k: u64) -> Result<u64, Refusal> {
-        let Some(mode) = mode_of(state) else {
-            return Err(Refusal::OutsideSet);
-        };
-        match (mode, k) {
+        match (mode_of(state)?, k) {
             (Mode::Both, 0) => Ok(3),
             (Mode::Standby, 0) => Ok(2),
             (Mode::Standby, 1) => Ok(1),
@@ -131,13 +131,8 @@ impl System for Failover {
         n: u64,
         target: &mut [u16],
     ) -> Result<Weight, Refusal> {
-        if target.len() != WIDTH {
-            return Err(Refusal::WrongBuffer);
-        }
-        let Some(mode) = mode_of(state) else {
-            return Err(Refusal::OutsideSet);
-        };
-        let (weight, next) = match (mode, k, n) {
+        fit(target)?;
+        let (weight, next) = match (mode_of(state)?, k, n) {
             (Mode::Both, 0, 0) => (9, Mode::Both),
             (Mode::Both, 0, 1) => (0, Mode::Neither),
             (Mode::Both, 0, 2) => (1, Mode::Standby),
@@ -160,22 +155,16 @@ impl Markov for Failover {
     ghost waits = { Prim.search rules };
 
     fn delay_count(&self, state: &[u16]) -> Result<u64, Refusal> {
-        match mode_of(state) {
-            Some(Mode::Both) => Ok(1),
-            Some(Mode::Standby) => Ok(2),
-            Some(Mode::Neither) => Ok(1),
-            None => Err(Refusal::OutsideSet),
-        }
+        Ok(match mode_of(state)? {
+            Mode::Both => 1,
+            Mode::Standby => 2,
+            Mode::Neither => 1,
+        })
     }
 
     fn delay(&self, state: &[u16], k: u64, target: &mut [u16]) -> Result<Rate, Refusal> {
-        if target.len() != WIDTH {
-            return Err(Refusal::WrongBuffer);
-        }
-        let Some(mode) = mode_of(state) else {
-            return Err(Refusal::OutsideSet);
-        };
-        let (rate, next) = match (mode, k) {
+        fit(target)?;
+        let (rate, next) = match (mode_of(state)?, k) {
             (Mode::Both, 0) => (1, Mode::Standby),
             (Mode::Standby, 0) => (5, Mode::Both),
             (Mode::Standby, 1) => (1, Mode::Neither),

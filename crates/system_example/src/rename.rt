@@ -44,11 +44,9 @@ impl<S: Markov> System for Rename<S> {
     fn label(&self, state: &[u16], k: u64) -> Result<Label, Refusal> {
         let label = self.below.label(state, k)?;
         if label.action == self.from {
-            let values = label.values;
             Ok(Label {
                 action: self.to.number,
-                count: label.count,
-                values,
+                ..label
             })
         } else {
             Ok(label)

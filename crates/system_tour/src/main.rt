@@ -2,7 +2,7 @@
 #![tactic(auto)]
 
 use explore::explore;
-use system::{Call, Label, Markov, Refusal, Step, System, Walk, play};
+use system::{Call, Markov, Refusal, System, Walk, play};
 use system_example::{Action, Failover, Rename};
 
 const CALLS: [Call; 8] = [
@@ -30,41 +30,7 @@ fn print_words(rt: &HostRuntime, words: &[u16]) -> anyhow::Result<()> {
 fn print_answer(rt: &HostRuntime, answer: Result<(), Refusal>) -> anyhow::Result<()> {
     match answer {
         Ok(()) => println!(rt; "ok")?,
-        Err(refusal) => {
-            let number = refusal.number();
-            println!(rt; "refused {number}")?;
-        }
-    }
-    Ok(())
-}
-
-fn print_label(rt: &HostRuntime, label: Label) -> anyhow::Result<()> {
-    let action = label.action;
-    let count = label.count;
-    print!(rt; "{action}(")?;
-    for (i, value) in label.values.iter().enumerate() {
-        if i < count {
-            if i > 0 {
-                print!(rt; ",")?;
-            }
-            print!(rt; "{value}")?;
-        }
-    }
-    print!(rt; ")")?;
-    Ok(())
-}
-
-fn print_step(rt: &HostRuntime, step: Step) -> anyhow::Result<()> {
-    match step {
-        Step::Acted(label, n) => {
-            print!(rt; " act ")?;
-            print_label(rt, label)?;
-            print!(rt; " {n}")?;
-        }
-        Step::Waited(rate) => {
-            let per = rate.0;
-            print!(rt; " wait {per}")?;
-        }
+        Err(refusal) => println!(rt; "{refusal}")?,
     }
     Ok(())
 }
@@ -74,11 +40,9 @@ fn print_walk<S: Markov>(rt: &HostRuntime, walk: &Walk<S>) -> anyhow::Result<()>
     print_words(rt, walk.state())?;
     print!(rt; "trail:")?;
     for i in 0..walk.trail_length() {
-        if i > 0 {
-            print!(rt; ";")?;
-        }
         if let Some(step) = walk.step(i) {
-            print_step(rt, step)?;
+            let before = if i > 0 { "; " } else { " " };
+            print!(rt; "{before}{step}")?;
         }
     }
     println!(rt)?;
@@ -103,8 +67,7 @@ fn print_states<S: Markov>(rt: &HostRuntime, system: &S, rows: &mut [u16]) -> an
         }
         Err(refusal) => {
             print_rows(rt, rows, width, rows.len())?;
-            let number = refusal.number();
-            println!(rt; "refused {number}")?;
+            println!(rt; "{refusal}")?;
         }
     }
     Ok(())
