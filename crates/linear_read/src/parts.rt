@@ -11,12 +11,13 @@ ghost use Rattle.linear_read.specs.Spots.{to};
 use crate::reader::Reader;
 use crate::rules::{named_act, named_guard, named_target};
 use arrayvec::ArrayVec;
-use linear::{Act, Doing, Entry, EntryList, Guard, LinearFault, Place, Summand, Target};
+use linear::{Act, Doing, Entry, EntryList, Guard, LinearFault, NoEntry, Place, Summand, Target};
 use words::word_at;
 
 // What a summand does, as it stands in a file, and what a summand that does it has to name.
 pub(crate) trait Part: Doing {
     ghost part_in: { List ℕ → Place → ℕ → Result Self LinearFault };
+
     ghost named: { ℕ → ℕ → Summand Self → Bool };
 
     fn read(reader: &mut Reader) -> Result<Self, LinearFault>
@@ -30,6 +31,7 @@ pub(crate) trait Part: Doing {
 // An action, its arguments, its variable and its weight.
 impl Part for Act {
     ghost part_in = { acts_in };
+
     ghost named = { named_action };
 
     fn read(reader: &mut Reader) -> Result<Act, LinearFault> {
@@ -55,6 +57,7 @@ impl Part for Act {
 // A rate.
 impl Part for u16 {
     ghost part_in = { rate_in };
+
     ghost named = { named_delay };
 
     fn read(reader: &mut Reader) -> Result<u16, LinearFault> {
@@ -92,7 +95,10 @@ impl<'a> Reader<'a> {
         for i in 0..self.variables {
             let at = self.at + 4 * i;
             let words = [word_at(self.bytes, at), word_at(self.bytes, at + 2)];
-            items.push(Entry::try_from(words).ok()?);
+            match Entry::try_from(words) {
+                Ok(entry) => items.push(entry),
+                Err(NoEntry) => return None,
+            }
         }
         Some(EntryList { items })
     }

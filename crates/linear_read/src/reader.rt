@@ -82,7 +82,7 @@ impl<'a> Reader<'a> {
     fn words(&mut self, count: u16) -> Result<WordList, LinearFault>
         requires few { count ≤ 16 }
         ensures answer { result ≡ words_in self.old.bytes self.old.place count self.old.at }
-        ensures moves { OnOk result (self.new ≡ to self.old (self.old.at + 2 * count)) }
+        ensures moves { IfOk result (λ xs. self.new ≡ to self.old (self.old.at + 2 * length xs)) }
     {
         if self.bytes.len() - self.at < 2 * usize::from(count) {
             return Err(LinearFault::Length(self.place));

@@ -9,7 +9,11 @@ use linear::{FixedList, Group, LinearFault, Place, Summand};
 
 impl<'a> Reader<'a> {
     // The next so many summands.
-    fn summands<D: Part>(&mut self, group: Group, count: u16) -> Result<FixedList<Summand<D>, 256>, LinearFault>
+    fn summands<D: Part>(
+        &mut self,
+        group: Group,
+        count: u16,
+    ) -> Result<FixedList<Summand<D>, 256>, LinearFault>
         requires few { count ≤ 256 }
         ensures answer { MatchResult result
             (λ ss. summands_from D.part_in D.words self.old.bytes self.old.variables group count 0 self.old.at [] ≡ Ok (ss, self.new.at))
@@ -26,7 +30,11 @@ impl<'a> Reader<'a> {
     }
 
     // A section of at most so many summands.
-    pub(crate) fn section<D: Part>(&mut self, group: Group, most: u16) -> Result<FixedList<Summand<D>, 256>, LinearFault>
+    pub(crate) fn section<D: Part>(
+        &mut self,
+        group: Group,
+        most: u16,
+    ) -> Result<FixedList<Summand<D>, 256>, LinearFault>
         requires few { most ≤ 256 }
         ensures answer { MatchResult result
             (λ ss. section_in D.part_in D.words self.old.bytes self.old.variables group most self.old.at ≡ Ok (ss, self.new.at))
