@@ -1,5 +1,5 @@
 -- A loop that reads one summand after another into a list. Assumes nothing.
-use Rattle.std.proofs.Common.{◌≡◌, ℕ, suc, ◌+◌, ◌-◌, ◌<◌, Bool, true, false, cond, List, [], ◌∷◌, ◌++◌, Ok, Err, Result, sym, ap, ◌∙◌, arith}
+use Rattle.std.proofs.Common.{◌≡◌, ℕ, suc, ◌+◌, ◌-◌, ◌<◌, Bool, true, cond, List, [], ◌∷◌, ◌++◌, Ok, Err, Result, sym, ap, ◌∙◌, arith}
 use Rattle.linear.specs.Equations.{Summand}
 use Rattle.linear.specs.Faults.{at, head}
 use Rattle.linear.specs.Reading.{then, summand_in, summand_end, summands_from, word_in, kept_from}
@@ -7,10 +7,6 @@ use Rattle.linear.specs.declared.fault.Group.{Group}
 use Rattle.linear.specs.declared.fault.Place.{Place}
 use Rattle.linear.specs.declared.fault.LinearFault.{LinearFault}
 use Rattle.linear.specs.declared.fault.LinearFault.TheVariants.{Limit}
-
--- the exit of a loop at a fault
-pub exits : {X : Type 0} {r s t : Result X LinearFault} {x y : LinearFault} → r ≡ Err y → y ≡ x → s ≡ t → s ≡ Err x → r ≡ t
-exits a b inv stop = a ∙ (ap Err b ∙ (sym stop ∙ inv))
 
 module _ {D : Type 0} (does_in : List ℕ → Place → ℕ → Result D LinearFault) (does_words : D → List ℕ) (bs : List ℕ) (v : ℕ) (g : Group) where
   abbrev from : ℕ → ℕ → ℕ → List (Summand D) → Result (List (Summand D) × ℕ) LinearFault
@@ -42,12 +38,3 @@ module _ (rule : ℕ → ℕ → Bool) (bs : List ℕ) where
       sym (ap (λ b. cond b (kept_from rule bs (n - (k + 1)) (k + 1) (p + 2) (xs ++ (w ∷ []))) (Err (Limit head))) ok)
       ∙ ap (λ r. then r (next n k p xs)) is
       ∙ sym (kept_next n k p xs lt)
-
-  pub kept_cut : (n k p : ℕ) (xs : List ℕ) (x : LinearFault) → k < n → Err x ≡ word_in bs head p → kept_from rule bs (n - k) k p xs ≡ Err x
-  kept_cut n k p xs x lt is = kept_next n k p xs lt ∙ sym (ap (λ r. then r (next n k p xs)) is)
-
-  pub kept_off : (n k p : ℕ) (xs : List ℕ) (w : ℕ) → k < n → Ok w ≡ word_in bs head p → rule k w ≡ false → kept_from rule bs (n - k) k p xs ≡ Err (Limit head)
-  kept_off n k p xs w lt is off =
-      kept_next n k p xs lt
-      ∙ sym (ap (λ r. then r (next n k p xs)) is)
-      ∙ ap (λ b. cond b (kept_from rule bs (n - (k + 1)) (k + 1) (p + 2) (xs ++ (w ∷ []))) (Err (Limit head))) off

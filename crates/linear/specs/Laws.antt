@@ -4,7 +4,7 @@
 --     small E      the sizes of each summand's sum variables multiply to at most 65,536
 --     lawful E     all of these
 --     IsFile bs    the bytes are the file of a lawful equation
-use Rattle.std.specs.Prelude.{◌≡◌, ℕ, ◌+◌, ◌*◌, Bool, true, false, not, ◌&&◌, ◌||◌, nat_lt, List, [], ◌∷◌, length, ◌==◌, nat_le, slice_index_or}
+use Rattle.std.specs.Prelude.{◌≡◌, ℕ, ◌+◌, ◌*◌, Bool, true, false, not, ◌&&◌, nat_lt, List, [], ◌∷◌, length, ◌==◌, nat_le, slice_index_or}
 use Rattle.std.specs.List.{list_any, list_all}
 use Rattle.linear.specs.Equations.{Guarded, Acts, Leads, Summand, Linear}
 use Rattle.linear.specs.Layout.{file_of}

@@ -23,7 +23,7 @@ impl HeadRule for IsSize {
     ghost rule = { λ _. size_rule };
 
     fn keeps(&self, _index: u16, word: u16) -> bool {
-        word >= 1 && word <= 256
+        (1..=256).contains(&word)
     }
 }
 

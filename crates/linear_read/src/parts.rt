@@ -3,15 +3,16 @@ ghost use Rattle.std.specs.Prelude.{◌≡◌, ℕ, ◌+◌, ◌*◌, ◌≤◌,
 ghost use Rattle.linear.specs.Equations.{Summand};
 ghost use Rattle.linear.specs.Laws.{named_action, named_delay};
 ghost use Rattle.linear.specs.Layout.{guard_words};
-ghost use Rattle.linear.specs.Reading.{guard_in, acts_in, rate_in, leads_in, entries_from, summand_in, summand_end, past};
+ghost use Rattle.linear.specs.Reading.{guard_in, acts_in, rate_in, leads_in, entry_of, entries_from, summand_in, summand_end, past};
 ghost use Rattle.linear.specs.declared.fault.Place.{Place};
 ghost use Rattle.linear.specs.declared.fault.LinearFault.{LinearFault};
 ghost use Rattle.linear_read.specs.Spots.{to};
+ghost use Rattle.words.specs.Words.{word_at};
 
 use crate::reader::Reader;
 use crate::rules::{named_act, named_guard, named_target};
 use arrayvec::ArrayVec;
-use linear::{Act, Doing, Entry, EntryList, Guard, LinearFault, NoEntry, Place, Summand, Target};
+use linear::{Act, Doing, Entry, EntryList, Guard, LinearFault, Place, Summand, Target};
 use words::word_at;
 
 // What a summand does, as it stands in a file, and what a summand that does it has to name.
@@ -70,6 +71,14 @@ impl Part for u16 {
     }
 }
 
+// The entry by the two words at a position, or none.
+fn entry_at(bytes: &[u8], at: usize) -> Option<Entry>
+    requires room { at + 4 ≤ length bytes.now }
+    ensures answer { result ≡ entry_of (word_at bytes.now at) (word_at bytes.now (at + 2)) }
+{
+    Entry::try_from([word_at(bytes, at), word_at(bytes, at + 2)]).ok()
+}
+
 impl<'a> Reader<'a> {
     // A program counter, the sum variables and the conditions.
     fn guard(&mut self) -> Result<Guard, LinearFault>
@@ -93,12 +102,7 @@ impl<'a> Reader<'a> {
     {
         let mut items = ArrayVec::new();
         for i in 0..self.variables {
-            let at = self.at + 4 * i;
-            let words = [word_at(self.bytes, at), word_at(self.bytes, at + 2)];
-            match Entry::try_from(words) {
-                Ok(entry) => items.push(entry),
-                Err(NoEntry) => return None,
-            }
+            items.push(entry_at(self.bytes, self.at + 4 * i)?);
         }
         Some(EntryList { items })
     }

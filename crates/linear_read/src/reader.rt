@@ -72,7 +72,7 @@ impl<'a> Reader<'a> {
         ensures within { IfOk result (λ n. n ≤ high) }
     {
         let count = self.word()?;
-        if count < low || count > high {
+        if !(low..=high).contains(&count) {
             return Err(LinearFault::Limit(self.place));
         }
         Ok(count)

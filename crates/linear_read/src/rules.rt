@@ -32,8 +32,7 @@ fn all_distinct(words: &[u16]) -> bool
 pub(crate) fn named_guard(guard: &Guard, variables: usize, counters: u16) -> bool
     ensures answer { result ≡ named_guard variables counters guard.now }
 {
-    guard.counter >= 1
-        && guard.counter <= counters
+    (1..=counters).contains(&guard.counter)
         && all_below(guard.sums.as_slice(), variables)
         && all_distinct(guard.sums.as_slice())
 }
@@ -49,7 +48,7 @@ pub(crate) fn named_act(act: &Act, sums: &WordList, variables: usize) -> bool
 pub(crate) fn named_target(target: &Target, variables: usize, counters: u16) -> bool
     ensures answer { result ≡ named_leads variables counters target.now }
 {
-    target.counter >= 1 && target.counter <= counters && target.entries.len() == variables
+    (1..=counters).contains(&target.counter) && target.entries.len() == variables
 }
 
 // Whether the sizes of these variables multiply to at most 65,536; one that is none counts as of size 1.

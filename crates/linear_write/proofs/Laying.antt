@@ -1,7 +1,7 @@
 -- Words laid one part after another. Assumes nothing.
-use Rattle.std.proofs.Common.{◌≡◌, ℕ, zero, suc, ◌+◌, ◌*◌, ◌/◌, ◌%◌, ◌<◌, ◌≤◌, ◌≢◌, List, [], ◌∷◌, ◌++◌, map, length, get_or, take, drop, set, Some, None, sym, refl, ap, ◌∙◌, ⊎_elim, arith}
+use Rattle.std.proofs.Common.{◌≡◌, ℕ, suc, ◌+◌, ◌*◌, ◌/◌, ◌%◌, ◌<◌, ◌≤◌, ◌≢◌, List, [], ◌∷◌, ◌++◌, length, take, drop, set, sym, refl, ap, ◌∙◌, ⊎_elim, arith}
 use Rattle.std.proofs.lemmas.Bool.{cases_lt}
-use Rattle.std.proofs.lemmas.List.{append-nil, append_assoc, length-append, length-set, set_comm, set-set, take_more, take_more_set, drop-set-lt, take-append-drop, length-take-le, length-map, get_or_append_left, get_or_past, take_at}
+use Rattle.std.proofs.lemmas.List.{append_assoc, length-set, set_comm, set-set, take_more_set, drop-set-lt, take-append-drop, get_or_append_left, get_or_past, take_at}
 use Rattle.words.specs.Headers.{version, four_bytes, headed}
 use Rattle.words.specs.Put.{put_word}
 use Rattle.words.specs.Words.{bytes_of, Bytes}
@@ -113,14 +113,6 @@ file_laid bs ws n is lt le =
     laid_is (topped bs n) 5 ws (omega arith)
     ∙ ap (λ l. l ++ (bytes_of ws ++ drop (past 5 ws) (topped bs n))) (topped_front bs n (omega arith) lt ∙ ap (λ m. version ∷ four_bytes m) is)
     ∙ ap (λ l. headed (bytes_of ws) ++ l) (topped_back bs n (past 5 ws) (omega arith) ∙ ap (λ m. drop m bs) end)
-
--- how long a file is
-pub file_long : (hw aw dw : List ℕ) → length (headed (bytes_of (hw ++ (aw ++ dw)))) ≡ 5 + 2 * (length hw + (length aw + length dw))
-file_long hw aw dw =
-    let bytes = length_bytes (hw ++ (aw ++ dw)) in
-    let one = length-append hw (aw ++ dw) in
-    let two = length-append aw dw in
-    omega arith
 
 pub front_bytes : (file rest : List ℕ) → Bytes (file ++ rest) → Bytes file
 front_bytes file rest low i =

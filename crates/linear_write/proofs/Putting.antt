@@ -1,24 +1,23 @@
 -- What a writer has written, one part after another. Assumes nothing.
-use Rattle.std.proofs.Common.{◌≡◌, ℕ, ◌+◌, ◌<◌, ◌≤◌, List, [], ◌∷◌, ◌++◌, length, get_or, take, drop, sym, ap, ◌∙◌, subst, arith, length-append}
+use base.Fml.{GName}
+use Rattle.std.proofs.Common.{◌≡◌, ℕ, ◌+◌, ◌<◌, ◌≤◌, List, [], ◌∷◌, ◌++◌, length, get_or, take, drop, sym, refl, ap, ◌∙◌, subst, arith, length-append}
 use Rattle.std.specs.List.{flat_map}
 use Rattle.std.proofs.lemmas.List.{take_more, drop_more, take-append-drop, flat_map_more}
 use Rattle.std.proofs.lemmas.Grind.{flat_map-append}
 use Rattle.linear.specs.Reading.{past}
-use Rattle.words.specs.Put.{put_word}
 use Rattle.words.specs.Words.{bytes_of}
 use Rattle.linear.proofs.Shows.{length_bytes}
-use Rattle.linear_write.specs.Laid.{laid}
-use Rattle.linear_write.specs.Written.{Put, after, HasRoom}
+use Rattle.linear_write.specs.Written.{Put, after, paid, HasRoom}
 use Rattle.linear_write.proofs.Laying.{laid_join, length_laid, section_paid, topped, length_topped}
 
-pub made : {a b : List ℕ} {m n : ℕ} → a ≡ b → m ≡ n → ◌≡◌ {A = Put} (record { out = a; at = m }) (record { out = b; at = n })
-made {a} {b} {m} {n} e f =
-    let one : List ℕ → Put = λ o. record { out = o; at = m } in
-    let two : ℕ → Put = λ q. record { out = b; at = q } in
+pub made : {a b : List ℕ} {m n : ℕ} (g : GName) → a ≡ b → m ≡ n → ◌≡◌ {A = Put} (record { out = a; at = m; lender = g }) (record { out = b; at = n; lender = g })
+made {a} {b} {m} {n} g e f =
+    let one : List ℕ → Put = λ o. record { out = o; at = m; lender = g } in
+    let two : ℕ → Put = λ q. record { out = b; at = q; lender = g } in
     ap one e ∙ ap two f
 
 joined : (s : Put) (ws vs : List ℕ) → after (after s ws) vs ≡ after s (ws ++ vs)
-joined s ws vs = let long = length-append ws vs in made (sym (laid_join s.out ws vs s.at)) (omega arith)
+joined s ws vs = let long = length-append ws vs in made s.lender (sym (laid_join s.out ws vs s.at)) (omega arith)
 
 -- a part and what is put after it
 pub step : (s : Put) {t u : Put} (ws vs : List ℕ) → t ≡ after s ws → u ≡ after t vs → u ≡ after s (ws ++ vs)
@@ -66,19 +65,17 @@ module _ (ws : List ℕ) (k : ℕ) (w : ℕ) (lt : k < length ws) (is : get_or w
   word_step e = step s (take k ws) (w ∷ []) here e ∙ ap (after s) (take_next ws k w lt is)
 
 -- a section that was opened and filled, once its count is paid
-pub closed : (s : Put) (ws : List ℕ) (n : ℕ) {t : Put} {place count : ℕ} {out : List ℕ} {at : ℕ} → t ≡ after s (0 ∷ ws) → place ≡ s.at → count ≡ n → out ≡ put_word t.out place count → at ≡ t.at → ◌≡◌ {A = Put} (record { out = out; at = at }) (after s (n ∷ ws))
-closed s ws n {t} {place} {count} filled there many paid stays =
-    made
-    (paid
-    ∙ ap (λ (y : Put). put_word y.out place count) filled
-    ∙ ap (λ q. put_word (laid (put_word s.out s.at 0) (s.at + 2) ws) q count) there
-    ∙ ap (put_word (laid (put_word s.out s.at 0) (s.at + 2) ws) s.at) many
-    ∙ section_paid s.out ws s.at n)
-    (stays ∙ ap (λ (y : Put). y.at) filled)
+pub closed : (s : Put) (ws : List ℕ) (n : ℕ) {t u : Put} {place count : ℕ} → t ≡ after s (0 ∷ ws) → place ≡ s.at → count ≡ n → u ≡ paid t place count → u ≡ after s (n ∷ ws)
+closed s ws n {t} {u} {place} {count} filled there many is =
+    is
+    ∙ ap (λ (y : Put). paid y place count) filled
+    ∙ ap (λ q. paid (after s (0 ∷ ws)) q count) there
+    ∙ ap (paid (after s (0 ∷ ws)) s.at) many
+    ∙ made s.lender (section_paid s.out ws s.at n) refl
 
 -- there is room for a file behind its header
-pub file_room : {s : Put} (out ws : List ℕ) (n : ℕ) → s ≡ record { out = topped out n; at = 5 } → 5 + length (bytes_of ws) ≤ length out → HasRoom s ws
-file_room out ws n e le =
+pub file_room : {s : Put} (out ws : List ℕ) (n : ℕ) (g : GName) → s ≡ record { out = topped out n; at = 5; lender = g } → 5 + length (bytes_of ws) ≤ length out → HasRoom s ws
+file_room out ws n g e le =
     let long = length_bytes ws in
     let same = length_topped out n in
     let P : Put → Type 0 = λ y. HasRoom y ws in

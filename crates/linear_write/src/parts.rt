@@ -11,8 +11,7 @@ use linear::{Act, Doing, Entry, Guard, Summand, Target};
 pub(crate) trait Part: Doing {
     fn put(&self, writer: &mut Writer)
         requires room { HasRoom (written writer.old) (Self.words self.now) }
-        ensures leaves { written writer.new ≡ after (written writer.old) (Self.words self.now) }
-        ensures same { writer.new.out.ghost_name ≡ writer.old.out.ghost_name };
+        ensures leaves { written writer.new ≡ after (written writer.old) (Self.words self.now) };
 }
 
 // An action, its arguments, its variable and its weight.
@@ -36,7 +35,6 @@ impl<'a> Writer<'a> {
     fn put_guard(&mut self, guard: &Guard)
         requires room { HasRoom (written self.old) (guard_words guard.now) }
         ensures leaves { written self.new ≡ after (written self.old) (guard_words guard.now) }
-        ensures same { self.new.out.ghost_name ≡ self.old.out.ghost_name }
     {
         self.put(guard.counter);
         self.put_list(&guard.sums);
@@ -47,7 +45,6 @@ impl<'a> Writer<'a> {
     fn put_entries(&mut self, entries: &[Entry])
         requires room { HasRoom (written self.old) (flat_map entry_words entries.now) }
         ensures leaves { written self.new ≡ after (written self.old) (flat_map entry_words entries.now) }
-        ensures same { self.new.out.ghost_name ≡ self.old.out.ghost_name }
     {
         for entry in entries {
             let words = <[u16; 2]>::from(*entry);
@@ -58,7 +55,6 @@ impl<'a> Writer<'a> {
     fn put_target(&mut self, target: &Target)
         requires room { HasRoom (written self.old) (leads_words target.now) }
         ensures leaves { written self.new ≡ after (written self.old) (leads_words target.now) }
-        ensures same { self.new.out.ghost_name ≡ self.old.out.ghost_name }
     {
         self.put(target.counter);
         self.put_entries(target.entries.as_slice());
@@ -67,7 +63,6 @@ impl<'a> Writer<'a> {
     pub(crate) fn put_summand<D: Part>(&mut self, summand: &Summand<D>)
         requires room { HasRoom (written self.old) (summand_words D.words summand.now) }
         ensures leaves { written self.new ≡ after (written self.old) (summand_words D.words summand.now) }
-        ensures same { self.new.out.ghost_name ≡ self.old.out.ghost_name }
     {
         self.put_guard(&summand.when);
         summand.does.put(self);

@@ -1,8 +1,7 @@
 // The sections of a file that a writer opens: whoever opens one owes its count, and pays it by closing.
 ghost use Rattle.std.specs.Prelude.{◌≡◌, ◌+◌, ◌<◌, ◌∷◌, []};
-ghost use Rattle.words.specs.Put.{put_word};
 ghost use Rattle.linear.specs.Layout.{summand_words, section_words};
-ghost use Rattle.linear_write.specs.Written.{written, after, HasRoom};
+ghost use Rattle.linear_write.specs.Written.{written, after, paid, HasRoom};
 
 use crate::parts::Part;
 use crate::writer::Writer;
@@ -22,7 +21,6 @@ impl<'a> Writer<'a> {
         ensures place { result.at ≡ self.old.at }
         ensures none { result.count ≡ 0 }
         ensures leaves { written self.new ≡ after (written self.old) (0 ∷ []) }
-        ensures same { self.new.out.ghost_name ≡ self.old.out.ghost_name }
     {
         let at = self.at;
         self.put(0);
@@ -34,7 +32,6 @@ impl<'a> Writer<'a> {
         requires room { HasRoom (written self.old) (summand_words D.words summand.now) }
         requires few { section.old.count < 65535 }
         ensures leaves { written self.new ≡ after (written self.old) (summand_words D.words summand.now) }
-        ensures same { self.new.out.ghost_name ≡ self.old.out.ghost_name }
         ensures place { section.new.at ≡ section.old.at }
         ensures counts { section.new.count ≡ section.old.count + 1 }
     {
@@ -44,9 +41,7 @@ impl<'a> Writer<'a> {
 
     // Pays the count of the section.
     fn close(&mut self, section: Section)
-        ensures leaves { self.new.out.now ≡ put_word self.old.out.now section.at section.count }
-        ensures stays { self.new.at ≡ self.old.at }
-        ensures same { self.new.out.ghost_name ≡ self.old.out.ghost_name }
+        ensures leaves { written self.new ≡ paid (written self.old) section.at section.count }
     {
         let Section { at, count } = section;
         put_word(self.out, at, count);
@@ -56,7 +51,6 @@ impl<'a> Writer<'a> {
     pub(crate) fn put_section<D: Part>(&mut self, summands: &FixedList<Summand<D>, 256>)
         requires room { HasRoom (written self.old) (section_words D.words summands.now) }
         ensures leaves { written self.new ≡ after (written self.old) (section_words D.words summands.now) }
-        ensures same { self.new.out.ghost_name ≡ self.old.out.ghost_name }
     {
         let mut section = self.open();
         for summand in summands.as_slice() {

@@ -16,8 +16,7 @@ pub(crate) struct Writer<'a> {
 impl<'a> Writer<'a> {
     // Begins after the header.
     pub(crate) fn new(out: &'a mut [u8]) -> Writer<'a>
-        ensures begins { written result ≡ record { out = out.old; at = 5 } }
-        ensures same { result.out.ghost_name ≡ out.entry.ghost_name }
+        ensures begins { written result ≡ record { out = out.old; at = 5; lender = out.entry.ghost_name } }
     {
         Writer { out, at: 5 }
     }
@@ -25,7 +24,6 @@ impl<'a> Writer<'a> {
     pub(crate) fn put(&mut self, word: u16)
         requires room { HasRoom (written self.old) (word ∷ []) }
         ensures leaves { written self.new ≡ after (written self.old) (word ∷ []) }
-        ensures same { self.new.out.ghost_name ≡ self.old.out.ghost_name }
     {
         put_word(self.out, self.at, word);
         self.at += 2;
@@ -35,7 +33,6 @@ impl<'a> Writer<'a> {
     pub(crate) fn put_words(&mut self, words: &[u16])
         requires room { HasRoom (written self.old) words.now }
         ensures leaves { written self.new ≡ after (written self.old) words.now }
-        ensures same { self.new.out.ghost_name ≡ self.old.out.ghost_name }
     {
         for word in words {
             self.put(*word);
@@ -46,7 +43,6 @@ impl<'a> Writer<'a> {
     pub(crate) fn put_list(&mut self, list: &WordList)
         requires room { HasRoom (written self.old) (counted list.now) }
         ensures leaves { written self.new ≡ after (written self.old) (counted list.now) }
-        ensures same { self.new.out.ghost_name ≡ self.old.out.ghost_name }
     {
         self.put(list.len() as u16);
         self.put_words(list.as_slice());

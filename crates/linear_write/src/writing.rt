@@ -11,7 +11,7 @@ use crate::fault::WriteFault;
 use crate::lengths::file_length;
 use crate::writer::Writer;
 use linear::{Equation, Table};
-use words::{put_word, word_at};
+use words::put_word;
 
 const VERSION: u8 = 1;
 
@@ -31,7 +31,6 @@ impl<'a> Writer<'a> {
     fn put_head(&mut self, table: &Table)
         requires room { HasRoom (written self.old) (head_words table.now) }
         ensures leaves { written self.new ≡ after (written self.old) (head_words table.now) }
-        ensures same { self.new.out.ghost_name ≡ self.old.out.ghost_name }
     {
         self.put_list(&table.sizes);
         self.put(table.counters);
@@ -46,19 +45,13 @@ fn put_file(out: &mut [u8], table: &Table, needed: usize)
     requires room { needed ≤ length out.old }
     requires small { needed ≤ 110000 }
     ensures leaves { out.new ≡ over (file_of table.now) out.old }
+    ensures bytes { Bytes out.new }
 {
     put_header(out, needed - 5);
     let mut writer = Writer::new(out);
     writer.put_head(table);
     writer.put_section(&table.actions);
     writer.put_section(&table.delays);
-}
-
-// What a buffer holds are bytes. The proof of `write` has to be told, which takes a look at the buffer.
-fn all_bytes(bytes: &[u8]) -> u16
-    ensures rules { Bytes bytes.now }
-{
-    word_at(bytes, 0)
 }
 
 // Writes the file of an equation to the front of a buffer, and answers its length; where the buffer is too short,
@@ -73,6 +66,5 @@ pub fn write(equation: &Equation, out: &mut [u8]) -> Result<usize, WriteFault>
         return Err(WriteFault::Short);
     }
     put_file(out, &equation.table, needed);
-    let _ = all_bytes(out);
     Ok(needed)
 }

@@ -1,9 +1,8 @@
-use Rattle.std.proofs.Common.{◌≡◌, ◌+◌, ◌-◌, ◌≤◌, ◌++◌, List, ℕ, length, refl, ap, ◌∙◌, arith, rules}
-use Rattle.words.specs.Words.{bytes_of}
+use Rattle.std.proofs.Common.{◌≡◌, ◌-◌, ◌++◌, refl, ap, ◌∙◌, arith, rules}
 use Rattle.linear.specs.Layout.{head_words, acts_words, rate_words, section_words, words_of, file_of}
 use Rattle.linear_write.specs.Laid.{laid, over}
-use Rattle.linear_write.specs.Written.{Put, written, HasRoom}
-use Rattle.linear_write.proofs.Laying.{topped, file_laid}
+use Rattle.linear_write.specs.Written.{Put, written}
+use Rattle.linear_write.proofs.Laying.{file_laid}
 use Rattle.linear_write.proofs.Putting.{made, step, room_first, room_then, file_room}
 use Rattle.linear_write.proofs.writing.put_file.Goals as goal
 
@@ -12,8 +11,8 @@ put_head-requires c =
     let e = c.args.table.now in
     let aw = section_words acts_words e.actions in
     let dw = section_words rate_words e.delays in
-    let begins = c.new-writer.ensures.begins ∙ made c.put_header.ensures.leaves refl in
-    let whole = file_room c.args.out.now (words_of e) (c.args.needed - 5) begins (omega arith) in
+    let begins = c.new-writer.ensures.begins ∙ made _ c.put_header.ensures.leaves refl in
+    let whole = file_room c.args.out.now (words_of e) (c.args.needed - 5) _ begins (omega arith) in
     record { room = room_first (written c.new-writer.result) (head_words e) (aw ++ dw) whole }
 
 pub put_section-requires : goal.put_section-requires
@@ -21,8 +20,8 @@ put_section-requires c =
     let e = c.args.table.now in
     let aw = section_words acts_words e.actions in
     let dw = section_words rate_words e.delays in
-    let begins = c.new-writer.ensures.begins ∙ made c.put_header.ensures.leaves refl in
-    let whole = file_room c.args.out.now (words_of e) (c.args.needed - 5) begins (omega arith) in
+    let begins = c.new-writer.ensures.begins ∙ made _ c.put_header.ensures.leaves refl in
+    let whole = file_room c.args.out.now (words_of e) (c.args.needed - 5) _ begins (omega arith) in
     (omega arith, room_first (written c.put_head.new.self) aw dw (room_then (written c.new-writer.result) (head_words e) (aw ++ dw) whole c.put_head.ensures.leaves))
 
 pub put_section-requires-2 : goal.put_section-requires-2
@@ -30,20 +29,24 @@ put_section-requires-2 c =
     let e = c.args.table.now in
     let aw = section_words acts_words e.actions in
     let dw = section_words rate_words e.delays in
-    let begins = c.new-writer.ensures.begins ∙ made c.put_header.ensures.leaves refl in
-    let whole = file_room c.args.out.now (words_of e) (c.args.needed - 5) begins (omega arith) in
+    let begins = c.new-writer.ensures.begins ∙ made _ c.put_header.ensures.leaves refl in
+    let whole = file_room c.args.out.now (words_of e) (c.args.needed - 5) _ begins (omega arith) in
     (omega arith, room_then (written c.put_head.new.self) aw dw (room_then (written c.new-writer.result) (head_words e) (aw ++ dw) whole c.put_head.ensures.leaves) c.put_section.ensures.leaves)
 
-pub returns : goal.returns
-returns c =
+pub returns-clause-bytes : goal.returns-clause-bytes
+returns-clause-bytes c = λ i. omega (arith, c.type_inv.out i)
+
+pub returns-clause-leaves : goal.returns-clause-leaves
+returns-clause-leaves c =
     let out = c.args.out.now in
     let e = c.args.table.now in
     let ws = words_of e in
     let aw = section_words acts_words e.actions in
     let dw = section_words rate_words e.delays in
     let n = c.args.needed - 5 in
-    let begins = c.new-writer.ensures.begins ∙ made c.put_header.ensures.leaves refl in
+    let begins = c.new-writer.ensures.begins ∙ made _ c.put_header.ensures.leaves refl in
     let ends = step (written c.new-writer.result) (head_words e) (aw ++ dw) c.put_head.ensures.leaves (step (written c.put_head.new.self) aw dw c.put_section.ensures.leaves c.put_section-2.ensures.leaves) in
     let whole : c.put_section-2.new.self.out.now ≡ over (file_of e) out =
     ap (λ (y : Put). y.out) ends ∙ (ap (λ (y : Put). laid y.out y.at ws) begins ∙ file_laid out ws n (omega arith) (omega arith) (omega arith)) in
-    record { leaves = search rules }
+    let lent = ap (λ (y : Put). y.lender) ends ∙ ap (λ (y : Put). y.lender) begins in
+    search rules

@@ -14,5 +14,5 @@ returns-clause-trips c =
     let n = c.file_length-needed.result in
     let whole = c.put_file.ensures.leaves in
     let B : List ℕ → Type 0 = λ b. Bytes b in
-    let low = front_bytes file (drop (length file) out) (subst B whole c.all_bytes.ensures.rules) in
+    let low = front_bytes file (drop (length file) out) (subst B whole c.put_file.ensures.bytes) in
     ap linear_file (ap (take n) whole ∙ file_front file out n c.file_length-needed.ensures.answer) ∙ written_reads e low c.args.equation.now.lawful

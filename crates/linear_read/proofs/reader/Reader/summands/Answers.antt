@@ -1,7 +1,6 @@
-use Rattle.std.proofs.Common.{◌≡◌, ◌+◌, ◌-◌, sym, refl, ap, ◌∙◌, arith}
+use Rattle.std.proofs.Common.{◌+◌, ◌-◌, sym, refl, ap, ◌∙◌, arith}
 use Rattle.std.proofs.lemmas.Result.{err_from_is_err_and}
-use Rattle.linear.specs.Faults.{at}
-use Rattle.linear.specs.Reading.{summand_in, summands_from}
+use Rattle.linear.specs.Reading.{summands_from}
 use Rattle.linear.proofs.Sections.{summands_more, summands_stop}
 use Rattle.linear_read.specs.Spots.{Spot}
 use Rattle.linear_read.proofs.Composed.{match_err}

@@ -18,9 +18,9 @@ put-requires-3 c =
     let rest = counted a.arguments ++ tail in
     record { room = room_then (written c.put_list.new.self) (a.variable ∷ []) (a.weight ∷ []) (room_then (written c.put.new.self) (counted a.arguments) tail (room_then (written c.args.writer.now) (a.action ∷ []) rest c.requires.room c.put.ensures.leaves) c.put_list.ensures.leaves) c.put-2.ensures.leaves }
 
-pub returns-clause-leaves : goal.returns-clause-leaves
-returns-clause-leaves c =
+pub returns : goal.returns
+returns c =
     let a = c.args.self.now in
     let tail = a.variable ∷ (a.weight ∷ []) in
     let rest = counted a.arguments ++ tail in
-    step (written c.args.writer.now) (a.action ∷ []) rest c.put.ensures.leaves (step (written c.put.new.self) (counted a.arguments) tail c.put_list.ensures.leaves (step (written c.put_list.new.self) (a.variable ∷ []) (a.weight ∷ []) c.put-2.ensures.leaves c.put-3.ensures.leaves))
+    record { leaves = step (written c.args.writer.now) (a.action ∷ []) rest c.put.ensures.leaves (step (written c.put.new.self) (counted a.arguments) tail c.put_list.ensures.leaves (step (written c.put_list.new.self) (a.variable ∷ []) (a.weight ∷ []) c.put-2.ensures.leaves c.put-3.ensures.leaves)) }

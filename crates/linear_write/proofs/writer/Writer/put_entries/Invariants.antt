@@ -5,4 +5,4 @@ use Rattle.linear_write.specs.Written.{written, after}
 use Rattle.linear_write.proofs.writer.Writer.put_entries.Given as goal
 
 abbrev pub invariant-loop-entry : goal.invariant-loop-entry
-invariant-loop-entry l = (written l.self ≡ after (written l.initial.self) (flat_map entry_words (take l.entry-index l.entries))) × (l.self.out.ghost_name ≡ l.initial.self.out.ghost_name)
+invariant-loop-entry l = written l.self ≡ after (written l.initial.self) (flat_map entry_words (take l.entry-index l.entries))

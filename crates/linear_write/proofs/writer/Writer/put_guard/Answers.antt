@@ -11,9 +11,9 @@ put_list-requires-2 c =
     let conditions = counted g.conditions in
     record { room = room_then (written c.put.new.self) sums conditions (room_then (written c.args.self.now) (g.counter ∷ []) (sums ++ conditions) c.requires.room c.put.ensures.leaves) c.put_list.ensures.leaves }
 
-pub returns-clause-leaves : goal.returns-clause-leaves
-returns-clause-leaves c =
+pub returns : goal.returns
+returns c =
     let g = c.args.guard.now in
     let sums = counted g.sums in
     let conditions = counted g.conditions in
-    step (written c.args.self.now) (g.counter ∷ []) (sums ++ conditions) c.put.ensures.leaves (step (written c.put.new.self) sums conditions c.put_list.ensures.leaves c.put_list-2.ensures.leaves)
+    record { leaves = step (written c.args.self.now) (g.counter ∷ []) (sums ++ conditions) c.put.ensures.leaves (step (written c.put.new.self) sums conditions c.put_list.ensures.leaves c.put_list-2.ensures.leaves) }

@@ -24,9 +24,9 @@ put_words-requires c =
     let P : List ℕ → Type 0 = λ ws. HasRoom (written c.put-2.new.self) ws in
     record { room = subst P (sym c.as_slice.ensures.answer) room }
 
-pub returns-clause-leaves : goal.returns-clause-leaves
-returns-clause-leaves c =
+pub returns : goal.returns
+returns c =
     let t = c.args.table.now in
     let vector = t.first.counter ∷ t.first.values in
     let last = c.put_words.ensures.leaves ∙ ap (after (written c.put-2.new.self)) c.as_slice.ensures.answer in
-    step (written c.args.self.now) (counted t.sizes) (t.counters ∷ vector) c.put_list.ensures.leaves (step (written c.put_list.new.self) (t.counters ∷ []) vector c.put.ensures.leaves (step (written c.put.new.self) (t.first.counter ∷ []) t.first.values c.put-2.ensures.leaves last))
+    record { leaves = step (written c.args.self.now) (counted t.sizes) (t.counters ∷ vector) c.put_list.ensures.leaves (step (written c.put_list.new.self) (t.counters ∷ []) vector c.put.ensures.leaves (step (written c.put.new.self) (t.first.counter ∷ []) t.first.values c.put-2.ensures.leaves last)) }

@@ -1,4 +1,4 @@
-use Rattle.std.proofs.Common.{◌≡◌, ℕ, ◌+◌, [], ◌∷◌, length, get_or, take, sym, ap, ◌∙◌, arith}
+use Rattle.std.proofs.Common.{◌≡◌, [], ◌∷◌, length, get_or, sym, ap, ◌∙◌, arith}
 use Rattle.std.specs.List.{flat_map}
 use Rattle.std.proofs.lemmas.List.{take_all}
 use Rattle.linear.specs.Layout.{summand_words}
@@ -30,13 +30,12 @@ loop-summand-preserved g c =
     let is : get_or xs k x ≡ x = sym (c.summand-item.is ∙ ap (λ ys. get_or ys k x) items) in
     let inv = c.loop-summand.invariant in (
       row_step xs k x (omega arith) is f (written c.open-section.new.self) (written c.loop-summand.self) inv.0 c.add.ensures.leaves,
-      c.add.ensures.same ∙ inv.1,
       omega arith,
-      c.add.ensures.place ∙ inv.3,
+      c.add.ensures.place ∙ inv.2,
     )
 
-pub returns-clause-leaves : goal.returns-clause-leaves
-returns-clause-leaves g c =
+pub returns : goal.returns
+returns g c =
     let xs = c.args.summands.now in
     let items = c.as_slice-summand-items.ensures.answer in
     let long = ap length items in
@@ -45,4 +44,4 @@ returns-clause-leaves g c =
     let opened = written c.open-section.new.self in
     let inv = c.loop-summand.invariant in
     let filled = inv.0 ∙ ap (λ ys. after opened (flat_map f ys)) (take_all k xs (omega arith)) in
-    closed (written c.args.self.now) (flat_map f xs) (length xs) (step (written c.args.self.now) (0 ∷ []) (flat_map f xs) c.open-section.ensures.leaves filled) (inv.3 ∙ c.open-section.ensures.place) (omega arith) c.close.ensures.leaves c.close.ensures.stays
+    record { leaves = closed (written c.args.self.now) (flat_map f xs) (length xs) (step (written c.args.self.now) (0 ∷ []) (flat_map f xs) c.open-section.ensures.leaves filled) (inv.2 ∙ c.open-section.ensures.place) (omega arith) c.close.ensures.leaves }

@@ -18,9 +18,9 @@ put_target-requires g c =
     let leads = leads_words s.leads in
     record { room = room_then (written c.put_guard.new.self) does leads (room_then (written c.args.self.now) (guard_words s.when) (does ++ leads) c.requires.room c.put_guard.ensures.leaves) c.put.ensures.leaves }
 
-pub returns-clause-leaves : goal.returns-clause-leaves
-returns-clause-leaves g c =
+pub returns : goal.returns
+returns g c =
     let s = c.args.summand.now in
     let does = g.D.Doing.words s.does in
     let leads = leads_words s.leads in
-    step (written c.args.self.now) (guard_words s.when) (does ++ leads) c.put_guard.ensures.leaves (step (written c.put_guard.new.self) does leads c.put.ensures.leaves c.put_target.ensures.leaves)
+    record { leaves = step (written c.args.self.now) (guard_words s.when) (does ++ leads) c.put_guard.ensures.leaves (step (written c.put_guard.new.self) does leads c.put.ensures.leaves c.put_target.ensures.leaves) }

@@ -3,4 +3,4 @@ use Rattle.linear_write.specs.Written.{written, after}
 use Rattle.linear_write.proofs.writer.Writer.put_words.Given as goal
 
 abbrev pub invariant-loop-word : goal.invariant-loop-word
-invariant-loop-word l = (written l.self ≡ after (written l.initial.self) (take l.word-index l.words)) × (l.self.out.ghost_name ≡ l.initial.self.out.ghost_name)
+invariant-loop-word l = written l.self ≡ after (written l.initial.self) (take l.word-index l.words)
