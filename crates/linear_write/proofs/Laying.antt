@@ -1,13 +1,13 @@
 -- Words laid one part after another. Assumes nothing.
-use Rattle.std.proofs.Common.{◌≡◌, ℕ, suc, ◌+◌, ◌*◌, ◌/◌, ◌%◌, ◌<◌, ◌≤◌, ◌≢◌, List, [], ◌∷◌, ◌++◌, length, take, drop, set, sym, refl, ap, ◌∙◌, ⊎_elim, arith}
+use Rattle.std.proofs.Common.{◌≡◌, ℕ, suc, ◌+◌, ◌-◌, ◌*◌, ◌/◌, ◌%◌, ◌<◌, ◌≤◌, ◌≢◌, List, [], ◌∷◌, ◌++◌, length, take, drop, set, sym, refl, ap, ◌∙◌, ⊎_elim, arith}
 use Rattle.std.proofs.lemmas.Bool.{cases_lt}
-use Rattle.std.proofs.lemmas.List.{append_assoc, length-set, set_comm, set-set, take_more_set, drop-set-lt, take-append-drop, get_or_append_left, get_or_past, take_at}
+use Rattle.std.proofs.lemmas.List.{append_assoc, length-set, set_comm, set-set, take_more_set, drop-set-lt, drop-drop, length-drop, take-append-drop, get_or_append_left, get_or_past, take_at}
 use Rattle.words.specs.Headers.{version, four_bytes, headed}
 use Rattle.words.specs.Put.{put_word}
 use Rattle.words.specs.Words.{bytes_of, Bytes}
 use Rattle.linear.proofs.Shows.{length_bytes}
 use Rattle.linear.specs.Reading.{past}
-use Rattle.linear_write.specs.Laid.{laid, over}
+use Rattle.linear_write.specs.Laid.{laid, topped, over}
 
 pub laid_join : (bs ws vs : List ℕ) (p : ℕ) → laid bs p (ws ++ vs) ≡ laid (laid bs p ws) (past p ws) vs
 laid_join bs [] vs p = let e : p ≡ p + 2 * 0 = omega arith in ap (λ q. laid bs q vs) e
@@ -76,42 +76,23 @@ laid_is bs p (w ∷ ws) le =
     ∙ append_assoc (take p bs) (w / 256 ∷ (w % 256 ∷ [])) rest
     ∙ ap (λ l. take p bs ++ (w / 256 ∷ (w % 256 ∷ (bytes_of ws ++ l)))) (put_back bs p w (p + 2 + 2 * length ws) (omega arith) ∙ ap (λ n. drop n bs) e)
 
--- the header
-header_bytes : (n : ℕ) → n < 4294967296 → ((n / 65536) / 256 ≡ n / 16777216) × ((n / 65536) % 256 ≡ n / 65536 % 256) × ((n % 65536) / 256 ≡ n / 256 % 256) × ((n % 65536) % 256 ≡ n % 256)
-header_bytes n lt = (omega arith, refl, omega arith, omega arith)
-
-abbrev pub topped : List ℕ → ℕ → List ℕ
-topped bs n = put_word (put_word (set bs 0 1) 1 (n / 65536)) 3 (n % 65536)
-
-pub length_topped : (bs : List ℕ) (n : ℕ) → length (topped bs n) ≡ length bs
-length_topped bs n = length_put (put_word (set bs 0 1) 1 (n / 65536)) 3 (n % 65536) ∙ (length_put (set bs 0 1) 1 (n / 65536) ∙ length-set bs 0 1)
-
-topped_front : (bs : List ℕ) (n : ℕ) → 5 ≤ length bs → n < 4294967296 → take 5 (topped bs n) ≡ version ∷ four_bytes n
-topped_front [] n le lt = absurd (omega arith)
-topped_front (a ∷ []) n le lt = absurd (omega arith)
-topped_front (a ∷ (b ∷ [])) n le lt = absurd (omega arith)
-topped_front (a ∷ (b ∷ (c ∷ []))) n le lt = absurd (omega arith)
-topped_front (a ∷ (b ∷ (c ∷ (d ∷ [])))) n le lt = absurd (omega arith)
-topped_front (a ∷ (b ∷ (c ∷ (d ∷ (e ∷ rest))))) n le lt =
-    let h = header_bytes n lt in
-    let h0 = h.0 in
-    let h2 = h.2 in
-    let h3 = h.3 in
-    cc
+pub length_topped : (bs : List ℕ) (n : ℕ) → 5 ≤ length bs → length (topped bs n) ≡ length bs
+length_topped bs n le = let cut = length-drop 5 bs in omega arith
 
 topped_back : (bs : List ℕ) (n m : ℕ) → 5 ≤ m → drop m (topped bs n) ≡ drop m bs
 topped_back bs n m le =
-    put_back (put_word (set bs 0 1) 1 (n / 65536)) 3 (n % 65536) m (omega arith)
-    ∙ (put_back (set bs 0 1) 1 (n / 65536) m (omega arith) ∙ drop-set-lt m bs 0 1 (omega arith))
+    let k : ℕ = m - 5 in
+    let e : m ≡ 5 + k = omega arith in
+    ap (λ j. drop j (topped bs n)) e ∙ sym (drop-drop k 5 (topped bs n)) ∙ drop-drop k 5 bs ∙ ap (λ j. drop j bs) (sym e)
 
 -- a whole file laid under its header
-pub file_laid : (bs ws : List ℕ) (n : ℕ) → n ≡ length (bytes_of ws) → n < 4294967296 → 5 + n ≤ length bs → laid (topped bs n) 5 ws ≡ over (headed (bytes_of ws)) bs
-file_laid bs ws n is lt le =
+pub file_laid : (bs ws : List ℕ) (n : ℕ) → n ≡ length (bytes_of ws) → 5 + n ≤ length bs → laid (topped bs n) 5 ws ≡ over (headed (bytes_of ws)) bs
+file_laid bs ws n is le =
     let long = length_bytes ws in
-    let same = length_topped bs n in
+    let same = length_topped bs n (omega arith) in
     let end : past 5 ws ≡ length (headed (bytes_of ws)) = omega arith in
     laid_is (topped bs n) 5 ws (omega arith)
-    ∙ ap (λ l. l ++ (bytes_of ws ++ drop (past 5 ws) (topped bs n))) (topped_front bs n (omega arith) lt ∙ ap (λ m. version ∷ four_bytes m) is)
+    ∙ ap (λ l. l ++ (bytes_of ws ++ drop (past 5 ws) (topped bs n))) (ap (λ m. version ∷ four_bytes m) is)
     ∙ ap (λ l. headed (bytes_of ws) ++ l) (topped_back bs n (past 5 ws) (omega arith) ∙ ap (λ m. drop m bs) end)
 
 pub front_bytes : (file rest : List ℕ) → Bytes (file ++ rest) → Bytes file

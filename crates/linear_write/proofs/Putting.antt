@@ -7,8 +7,9 @@ use Rattle.std.proofs.lemmas.Grind.{flat_map-append}
 use Rattle.linear.specs.Reading.{past}
 use Rattle.words.specs.Words.{bytes_of}
 use Rattle.linear.proofs.Shows.{length_bytes}
+use Rattle.linear_write.specs.Laid.{topped}
 use Rattle.linear_write.specs.Written.{Put, after, paid, HasRoom}
-use Rattle.linear_write.proofs.Laying.{laid_join, length_laid, section_paid, topped, length_topped}
+use Rattle.linear_write.proofs.Laying.{laid_join, length_laid, section_paid, length_topped}
 
 pub made : {a b : List ℕ} {m n : ℕ} (g : GName) → a ≡ b → m ≡ n → ◌≡◌ {A = Put} (record { out = a; at = m; lender = g }) (record { out = b; at = n; lender = g })
 made {a} {b} {m} {n} g e f =
@@ -77,7 +78,7 @@ closed s ws n {t} {u} {place} {count} filled there many is =
 pub file_room : {s : Put} (out ws : List ℕ) (n : ℕ) (g : GName) → s ≡ record { out = topped out n; at = 5; lender = g } → 5 + length (bytes_of ws) ≤ length out → HasRoom s ws
 file_room out ws n g e le =
     let long = length_bytes ws in
-    let same = length_topped out n in
+    let same = length_topped out n (omega arith) in
     let P : Put → Type 0 = λ y. HasRoom y ws in
     let there : past 5 ws ≤ length (topped out n) = omega arith in
     subst P (sym e) there

@@ -1,29 +1,25 @@
 // A linear equation to its file.
-ghost use Rattle.std.specs.Prelude.{◌≡◌, ◌/◌, ◌%◌, ◌^◌, ◌<◌, ◌≤◌, length, take, IfOk, Ok, slice_set};
-ghost use Rattle.words.specs.Put.{put_word};
+ghost use Rattle.std.specs.Prelude.{◌≡◌, ◌≤◌, length, take, IfOk, Ok};
 ghost use Rattle.words.specs.Words.{Bytes};
 ghost use Rattle.linear.specs.Layout.{head_words, file_of};
 ghost use Rattle.linear.specs.Reading.{linear_file};
-ghost use Rattle.linear_write.specs.Laid.{over, write_answer, write_leaves};
+ghost use Rattle.linear_write.specs.Laid.{topped, over, write_answer, write_leaves};
 ghost use Rattle.linear_write.specs.Written.{written, after, HasRoom};
 
 use crate::fault::WriteFault;
 use crate::lengths::file_length;
 use crate::writer::Writer;
 use linear::{Equation, Table};
-use words::put_word;
 
 const VERSION: u8 = 1;
 
 // The version byte and the length of the rest.
-fn put_header(out: &mut [u8], rest: usize)
+fn put_header(out: &mut [u8], rest: u32)
     requires room { 5 ≤ length out.old }
-    requires small { rest < 2 ^ 32 }
-    ensures leaves { out.new ≡ put_word (put_word (slice_set out.old 0 1) 1 (rest / 65536)) 3 (rest % 65536) }
+    ensures leaves { out.new ≡ topped out.old rest }
 {
-    out[0] = VERSION;
-    put_word(out, 1, (rest / 65536) as u16);
-    put_word(out, 3, (rest % 65536) as u16);
+    let [a, b, c, d] = rest.to_be_bytes();
+    out[..5].copy_from_slice(&[VERSION, a, b, c, d]);
 }
 
 impl<'a> Writer<'a> {
@@ -47,7 +43,7 @@ fn put_file(out: &mut [u8], table: &Table, needed: usize)
     ensures leaves { out.new ≡ over (file_of table.now) out.old }
     ensures bytes { Bytes out.new }
 {
-    put_header(out, needed - 5);
+    put_header(out, (needed - 5) as u32);
     let mut writer = Writer::new(out);
     writer.put_head(table);
     writer.put_section(&table.actions);

@@ -47,6 +47,6 @@ returns-clause-leaves c =
     let begins = c.new-writer.ensures.begins ∙ made _ c.put_header.ensures.leaves refl in
     let ends = step (written c.new-writer.result) (head_words e) (aw ++ dw) c.put_head.ensures.leaves (step (written c.put_head.new.self) aw dw c.put_section.ensures.leaves c.put_section-2.ensures.leaves) in
     let whole : c.put_section-2.new.self.out.now ≡ over (file_of e) out =
-    ap (λ (y : Put). y.out) ends ∙ (ap (λ (y : Put). laid y.out y.at ws) begins ∙ file_laid out ws n (omega arith) (omega arith) (omega arith)) in
+    ap (λ (y : Put). y.out) ends ∙ (ap (λ (y : Put). laid y.out y.at ws) begins ∙ file_laid out ws n (omega arith) (omega arith)) in
     let lent = ap (λ (y : Put). y.lender) ends ∙ ap (λ (y : Put). y.lender) begins in
     search rules
