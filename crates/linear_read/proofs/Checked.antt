@@ -1,7 +1,7 @@
 -- The first fault of the whole file, from the first summand of each group that breaks a rule. Assumes nothing.
-use Rattle.std.proofs.Common.{◌≡◌, ℕ, ◌≤◌, true, not, length, Some, None, Ok, Err, Result, sym, ap, ◌∙◌}
+use Rattle.std.proofs.Common.{◌≡◌, ℕ, true, not, length, Some, None, Ok, Err, Result, sym, ap, ◌∙◌}
 use Rattle.std.specs.List.{position_from}
-use Rattle.std.proofs.lemmas.Bool.{cond-true, and_from, le-leb}
+use Rattle.std.proofs.lemmas.Bool.{cond-true}
 use Rattle.linear.specs.Equations.{Linear}
 use Rattle.linear.specs.Faults.{at, head}
 use Rattle.linear.specs.Laws.{within, named_action, named_delay, small_sums}
@@ -12,14 +12,12 @@ use Rattle.linear.specs.declared.fault.LinearFault.TheVariants.{Misnamed, Produc
 use Rattle.linear.proofs.Left.{fails_some, fails_none}
 use Rattle.linear.proofs.Steps.{then_ok, then_err}
 
-module _ (e : Linear) (v : ℕ) (long : v ≡ length e.sizes) (low : 1 ≤ e.first.counter) (high : e.first.counter ≤ e.counters) where
+module _ (e : Linear) (v : ℕ) (long : v ≡ length e.sizes) (inside : within 1 e.counters e.first.counter ≡ true) where
   abbrev checks : ℕ → Result (Unit {0}) LinearFault
   checks n = then (fails_from (named_action n e.counters) Misnamed Actions 0 e.actions) (λ _. fails_from (named_delay n e.counters) Misnamed Delays 0 e.delays)
 
   checked : (z : Result (Unit {0}) LinearFault) → z ≡ checks v → z ≡ named_in e
-  checked z h =
-      let inside : within 1 e.counters e.first.counter ≡ true = and_from _ _ (le-leb 1 e.first.counter low) (le-leb e.first.counter e.counters high) in
-      h ∙ ap checks long ∙ sym (cond-true (within 1 e.counters e.first.counter) (checks (length e.sizes)) (Err (Misnamed head)) inside)
+  checked z h = h ∙ ap checks long ∙ sym (cond-true (within 1 e.counters e.first.counter) (checks (length e.sizes)) (Err (Misnamed head)) inside)
 
   pub named_first : (k : ℕ) → Some k ≡ position_from (λ s. not (named_action v e.counters s)) 0 e.actions → Err (Misnamed (at Actions k)) ≡ named_in e
   named_first k is = checked _ (then_err _ (fails_some (named_action v e.counters) Misnamed Actions e.actions k is))

@@ -6,7 +6,7 @@ ghost use Rattle.linear.specs.Laws.{small_sums};
 ghost use Rattle.linear.specs.Reading.{named_in, products_in};
 
 use crate::parts::Part;
-use crate::rules::small_sums;
+use crate::rules::{is_counter, small_sums};
 use linear::{FixedList, Group, HEAD, LinearFault, Place, Summand, Table, WordList};
 
 // The first summand that names something that is none, or chooses a variable twice.
@@ -49,7 +49,7 @@ fn place_of(group: Group, index: usize) -> Place
 pub(crate) fn check_names(table: &Table) -> Result<(), LinearFault>
     ensures answer { result ≡ named_in table.now }
 {
-    if table.first.counter < 1 || table.first.counter > table.counters {
+    if !is_counter(table.first.counter, table.counters) {
         return Err(LinearFault::Misnamed(HEAD));
     }
     let variables = table.sizes.len();

@@ -1,12 +1,19 @@
 // What a summand keeps, whatever its place in the file.
 ghost use Rattle.std.specs.Prelude.{◌≡◌, nat_le, nat_lt};
-ghost use Rattle.linear.specs.Laws.{all, distinct, member, product, named_guard, named_acts, named_leads};
+ghost use Rattle.linear.specs.Laws.{all, within, distinct, member, product, named_guard, named_acts, named_leads};
 
 use linear::{Act, Guard, Target, WordList};
 
 const LAST_ACTION: u16 = 63;
 
 const MOST_VALUES: u32 = 65536;
+
+// Whether this is a program counter.
+pub(crate) fn is_counter(counter: u16, counters: u16) -> bool
+    ensures answer { result ≡ within 1 counters counter }
+{
+    (1..=counters).contains(&counter)
+}
 
 fn all_below(words: &[u16], limit: usize) -> bool
     ensures answer { result ≡ all (λ x. nat_lt x limit) words.now }
@@ -32,7 +39,7 @@ fn all_distinct(words: &[u16]) -> bool
 pub(crate) fn named_guard(guard: &Guard, variables: usize, counters: u16) -> bool
     ensures answer { result ≡ named_guard variables counters guard.now }
 {
-    (1..=counters).contains(&guard.counter)
+    is_counter(guard.counter, counters)
         && all_below(guard.sums.as_slice(), variables)
         && all_distinct(guard.sums.as_slice())
 }
@@ -48,7 +55,7 @@ pub(crate) fn named_act(act: &Act, sums: &WordList, variables: usize) -> bool
 pub(crate) fn named_target(target: &Target, variables: usize, counters: u16) -> bool
     ensures answer { result ≡ named_leads variables counters target.now }
 {
-    (1..=counters).contains(&target.counter) && target.entries.len() == variables
+    is_counter(target.counter, counters) && target.entries.len() == variables
 }
 
 // Whether the sizes of these variables multiply to at most 65,536; one that is none counts as of size 1.
