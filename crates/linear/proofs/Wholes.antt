@@ -189,19 +189,6 @@ header_inv : (r : Result (Unit {0}) HeaderFault) (u : Unit {0}) → or_linear_fa
 header_inv (Ok tt) u h = refl
 header_inv (Err x) u h = let z : ◌≡◌ {A = ℕ} 0 1 = cc in absurd (omega arith)
 
--- the sizes of what was read are sizes
-pub sizes_within : (bs : List ℕ) (e : Linear) → table_in bs ≡ Ok e → all (within 1 256) e.sizes ≡ true
-sizes_within bs e h =
-    let i = then_inv (or_linear_fault (header_of bs)) _ e h in
-    let j = then_inv (head_in bs) _ e i.1.1 in
-    let hd = j.0 in
-    let k = then_inv (actions_in bs (length hd.0) (11 + 4 * length hd.0)) _ e j.1.1 in
-    let l = then_inv (delays_in bs (length hd.0) (length k.0.0) k.0.1) _ e k.1.1 in
-    let made : Linear = record { sizes = hd.0; counters = hd.1; first = hd.2; actions = k.0.0; delays = l.0.0 } in
-    let m = cond_inv (eqb l.0.1 (length bs)) (Ok made) (Length head) e l.1.1 in
-    let same = ok_inv made e m.1 in
-    ap (λ (y : Linear). all (within 1 256) y.sizes) (sym same) ∙ (head_shown bs hd.0 hd.1 hd.2 j.1.0).sized
-
 abbrev few_acts : Acts → Bool
 few_acts a = leb (length a.arguments) 4
 

@@ -1,5 +1,7 @@
 -- The number and the place of a fault of a linear file.
 use Rattle.std.specs.Prelude.{ℕ}
+use Rattle.words.specs.declared.header.HeaderFault.{HeaderFault}
+use Rattle.words.specs.declared.header.HeaderFault.TheVariants as header
 use Rattle.linear.specs.declared.fault.Group.{Group}
 use Rattle.linear.specs.declared.fault.Group.TheVariants.{Head, Actions, Delays}
 use Rattle.linear.specs.declared.fault.Place.{Place}
@@ -36,3 +38,7 @@ group_of x = group_number (place_of x).group
 
 abbrev pub summand_of : LinearFault → ℕ
 summand_of x = (place_of x).summand
+
+abbrev pub linear_fault : HeaderFault → LinearFault
+linear_fault header.Version = Version
+linear_fault header.Length = Length head

@@ -4,20 +4,19 @@
 --     small E      the sizes of each summand's sum variables multiply to at most 65,536
 --     lawful E     all of these
 --     IsFile bs    the bytes are the file of a lawful equation
-use Rattle.std.specs.Prelude.{◌≡◌, ℕ, ◌+◌, ◌*◌, Bool, true, false, not, ◌&&◌, ◌||◌, nat_lt, List, [], ◌∷◌, length, ◌==◌, nat_le, slice_index_or}
+use Rattle.std.specs.Prelude.{◌≡◌, ℕ, ◌+◌, ◌*◌, Bool, true, false, not, ◌&&◌, nat_lt, List, [], ◌∷◌, length, ◌==◌, nat_le, slice_index_or}
+use Rattle.std.specs.List.{list_any, list_all}
 use Rattle.linear.specs.Equations.{Guarded, Acts, Leads, Summand, Linear}
 use Rattle.linear.specs.Layout.{file_of}
 
 abbrev pub all : {X : Type 0} → (X → Bool) → List X → Bool
-all p [] = true
-all p (x ∷ xs) = p x && all p xs
+all p xs = list_all p xs
 
 abbrev pub within : ℕ → ℕ → ℕ → Bool
 within low high n = nat_le low n && nat_le n high
 
 abbrev pub member : ℕ → List ℕ → Bool
-member x [] = false
-member x (y ∷ ys) = x == y || member x ys
+member x xs = list_any (λ y. y == x) xs
 
 abbrev pub distinct : List ℕ → Bool
 distinct [] = true

@@ -3,4 +3,4 @@ pub mod Faults
 pub mod Laws
 pub mod Layout
 pub mod Reading
-pub mod Tables
+pub mod Shown

@@ -10,9 +10,8 @@ use Rattle.std.specs.Prelude.{◌≡◌, ℕ, zero, suc, ◌+◌, ◌-◌, ◌*�
 use Rattle.words.specs.Headers.{header_of}
 use Rattle.words.specs.Words.{word_at}
 use Rattle.words.specs.declared.header.HeaderFault.{HeaderFault}
-use Rattle.words.specs.declared.header.HeaderFault.TheVariants as header
 use Rattle.linear.specs.Equations.{Guarded, Acts, Leads, Summand, Vector, Linear}
-use Rattle.linear.specs.Faults.{at, head}
+use Rattle.linear.specs.Faults.{at, head, linear_fault}
 use Rattle.linear.specs.Laws.{within, named_action, named_delay, small_sums}
 use Rattle.linear.specs.Layout.{guard_words, acts_words, rate_words}
 use Rattle.linear.specs.declared.entry.Entry.{Entry}
@@ -21,16 +20,12 @@ use Rattle.linear.specs.declared.fault.Group.{Group}
 use Rattle.linear.specs.declared.fault.Group.TheVariants.{Actions, Delays}
 use Rattle.linear.specs.declared.fault.Place.{Place}
 use Rattle.linear.specs.declared.fault.LinearFault.{LinearFault}
-use Rattle.linear.specs.declared.fault.LinearFault.TheVariants.{Version, Length, Limit, Misnamed, Product}
+use Rattle.linear.specs.declared.fault.LinearFault.TheVariants.{Length, Limit, Misnamed, Product}
 
 -- go on where there is no fault
 abbrev pub then : {X Y : Type 0} → Result X LinearFault → (X → Result Y LinearFault) → Result Y LinearFault
 then (Ok x) f = f x
 then (Err e) f = Err e
-
-abbrev pub linear_fault : HeaderFault → LinearFault
-linear_fault header.Version = Version
-linear_fault header.Length = Length head
 
 abbrev pub or_linear_fault : {X : Type 0} → Result X HeaderFault → Result X LinearFault
 or_linear_fault (Ok x) = Ok x
@@ -80,6 +75,11 @@ entry_of k e =
     cond (k == 0) (cond (e == 0) (Some Reset) None)
     (cond (k == 1) (cond (e == 0) (Some Keep) None)
     (cond (k == 2) (Some (Take e)) None))
+
+-- what is read of the two words of an entry
+abbrev pub ByWords : {E : Type 0} → List ℕ → Result Entry E → Type 0
+ByWords ws (Ok e) = entry_of (slice_index ws 0) (slice_index ws 1) ≡ Some e
+ByWords ws (Err x) = entry_of (slice_index ws 0) (slice_index ws 1) ≡ None
 
 abbrev pub also : Option Entry → Option (List Entry) → Option (List Entry)
 also None es = None
@@ -197,8 +197,3 @@ answer_of (Err e) = Err e
 abbrev pub Leaves : {S : Type 0} → Result Linear LinearFault → (S → Linear) → S → S → Type 0
 Leaves (Ok e) equation before after = equation after ≡ e
 Leaves (Err x) equation before after = after ≡ before
-
--- what a table of fixed size that was read stands for
-abbrev pub mapped : {X Y : Type 0} → (X → Y) → Result X LinearFault → Result Y LinearFault
-mapped f (Ok x) = Ok (f x)
-mapped f (Err e) = Err e

@@ -1,12 +1,11 @@
 // A linear equation, lawful by its type.
 ghost use Rattle.std.specs.Prelude.{◌≡◌, true};
 ghost use Rattle.linear.specs.Laws.{lawful};
-ghost use Rattle.linear.specs.Tables.{equation_of};
 
 use crate::table::Table;
 
-#[derive(Clone, Copy)]
+#[derive(Drop)]
 pub struct Equation {
     pub table: Table,
-    ghost lawful: { lawful (equation_of table) ≡ true },
+    ghost lawful: { lawful table ≡ true },
 }

@@ -1,23 +1,31 @@
 // Why a linear file is refused, and where.
 ghost use Rattle.std.specs.Prelude.{◌≡◌};
-ghost use Rattle.linear.specs.Faults.{number_of, group_of, summand_of};
+ghost use Rattle.linear.specs.Faults.{number_of, group_of, summand_of, place_of, linear_fault};
 
-// The parts of a linear file.
-#[derive(Clone, Copy)]
+use words::HeaderFault;
+
+// The parts of a linear file, by their numbers.
+#[derive(Clone, Copy, PartialEq, Eq, Debug)]
 pub enum Group {
-    Head,
-    Actions,
-    Delays,
+    Head = 0,
+    Actions = 1,
+    Delays = 2,
 }
 
 // A summand of a group; 0 where no summand is meant.
-#[derive(Clone, Copy)]
+#[derive(Clone, Copy, PartialEq, Eq, Debug)]
 pub struct Place {
     pub group: Group,
     pub summand: u16,
 }
 
-#[derive(Clone, Copy)]
+// The head of the file, or the file as a whole.
+pub const HEAD: Place = Place {
+    group: Group::Head,
+    summand: 0,
+};
+
+#[derive(Clone, Copy, PartialEq, Eq, Debug)]
 pub enum LinearFault {
     // the version byte is missing or not 1
     Version,
@@ -45,34 +53,41 @@ impl LinearFault {
         }
     }
 
+    // The place it speaks of.
+    fn place(self) -> Place
+        ensures answer { result ≡ place_of self }
+    {
+        match self {
+            LinearFault::Version => HEAD,
+            LinearFault::Length(place)
+            | LinearFault::Limit(place)
+            | LinearFault::Misnamed(place)
+            | LinearFault::Product(place) => place,
+        }
+    }
+
     // The group it speaks of: 0 for the head, 1 for the actions, 2 for the delays.
     pub fn group(self) -> u16
         ensures answer { result ≡ group_of self }
     {
-        let place = match self {
-            LinearFault::Version => return 0,
-            LinearFault::Length(place) => place,
-            LinearFault::Limit(place) => place,
-            LinearFault::Misnamed(place) => place,
-            LinearFault::Product(place) => place,
-        };
-        match place.group {
-            Group::Head => 0,
-            Group::Actions => 1,
-            Group::Delays => 2,
-        }
+        self.place().group as u16
     }
 
     // The summand it speaks of, or 0.
     pub fn summand(self) -> u16
         ensures answer { result ≡ summand_of self }
     {
-        match self {
-            LinearFault::Version => 0,
-            LinearFault::Length(place) => place.summand,
-            LinearFault::Limit(place) => place.summand,
-            LinearFault::Misnamed(place) => place.summand,
-            LinearFault::Product(place) => place.summand,
+        self.place().summand
+    }
+}
+
+impl From<HeaderFault> for LinearFault {
+    ghost from_gives = { λ fault x. x ≡ linear_fault fault };
+
+    fn from(fault: HeaderFault) -> LinearFault {
+        match fault {
+            HeaderFault::Version => LinearFault::Version,
+            HeaderFault::Length => LinearFault::Length(HEAD),
         }
     }
 }

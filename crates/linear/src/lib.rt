@@ -1,24 +1,19 @@
 // Linear equations: their type, lawful by construction, and the definition of their files.
 #![tactic(auto)]
 
-mod entering;
-mod entries;
 mod entry;
 mod equation;
 mod fault;
-mod list;
-mod lists;
+mod fixed;
 mod smallest;
 mod spans;
 mod summand;
 mod table;
-mod tables;
 
-pub use entries::EntryList;
-pub use entry::Entry;
+pub use entry::{Entry, NoEntry};
 pub use equation::Equation;
-pub use fault::{Group, LinearFault, Place};
-pub use list::WordList;
-pub use smallest::{NO_ACTION, NO_DELAY};
-pub use summand::{Act, ActionSummand, DelaySummand, Guard, Target};
-pub use table::Table;
+pub use fault::{Group, HEAD, LinearFault, Place};
+pub use fixed::FixedList;
+pub use spans::Doing;
+pub use summand::{Act, ActionSummand, DelaySummand, EntryList, Guard, Summand, Target, WordList};
+pub use table::{Table, Vector};

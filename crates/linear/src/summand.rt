@@ -1,9 +1,15 @@
-// Summands: those that act and those that wait, of two types.
-use crate::entries::EntryList;
-use crate::list::WordList;
+// Summands: those that act and those that wait, of one type that differs in what they do.
+use crate::entry::Entry;
+use crate::fixed::FixedList;
+
+// A short list of words.
+pub type WordList = FixedList<u16, 16>;
+
+// One entry for each variable.
+pub type EntryList = FixedList<Entry, 16>;
 
 // When a summand may be taken: at its program counter, for values of its sums that meet all conditions.
-#[derive(Clone, Copy)]
+#[derive(Clone, Default, Drop)]
 pub struct Guard {
     pub counter: u16,
     pub sums: WordList,
@@ -11,7 +17,7 @@ pub struct Guard {
 }
 
 // An action with its arguments, and an outcome with this weight for each value of the variable.
-#[derive(Clone, Copy)]
+#[derive(Clone, Default, Drop)]
 pub struct Act {
     pub action: u16,
     pub arguments: WordList,
@@ -20,23 +26,22 @@ pub struct Act {
 }
 
 // Where a summand leads: the next program counter, and an entry for each variable.
-#[derive(Clone, Copy)]
+#[derive(Clone, Default, Drop)]
 pub struct Target {
     pub counter: u16,
     pub entries: EntryList,
 }
 
-#[derive(Clone, Copy)]
-pub struct ActionSummand {
-    pub guard: Guard,
-    pub act: Act,
-    pub target: Target,
+// When it may be taken, what it does, and where it leads.
+#[derive(Clone, Default, Drop)]
+pub struct Summand<D> {
+    pub when: Guard,
+    pub does: D,
+    pub leads: Target,
 }
 
-// The rate is an expression.
-#[derive(Clone, Copy)]
-pub struct DelaySummand {
-    pub guard: Guard,
-    pub rate: u16,
-    pub target: Target,
-}
+// A summand that acts.
+pub type ActionSummand = Summand<Act>;
+
+// A summand that waits, at the rate of this expression.
+pub type DelaySummand = Summand<u16>;

@@ -16,17 +16,17 @@ pub(crate) fn file(heap: Global, words: &[u16]) -> Result<Vec<u8>, AllocError> {
     Ok(bytes)
 }
 
-// The number, group and summand of the refusal of a file, or all 0 where it is taken.
-pub(crate) fn verdict(bytes: &[u8]) -> (u16, u16, u16) {
+// Whether a file is taken, or the number, group and summand of its refusal.
+pub(crate) fn verdict(bytes: &[u8]) -> Result<(), (u16, u16, u16)> {
     let mut equation = Equation::smallest();
-    match read(bytes, &mut equation) {
-        Ok(()) => (0, 0, 0),
-        Err(fault) => (fault.number(), fault.group(), fault.summand()),
-    }
+    read(bytes, &mut equation).map_err(|fault| (fault.number(), fault.group(), fault.summand()))
 }
 
 // The same of the file of some words.
-pub(crate) fn words_verdict(heap: Global, words: &[u16]) -> Result<(u16, u16, u16), AllocError> {
+pub(crate) fn words_verdict(
+    heap: Global,
+    words: &[u16],
+) -> Result<Result<(), (u16, u16, u16)>, AllocError> {
     let bytes = file(heap, words)?;
     Ok(verdict(bytes.as_slice()))
 }

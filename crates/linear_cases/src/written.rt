@@ -1,7 +1,7 @@
 // Files that come back byte for byte, and a buffer that is too short.
 use crate::files::{comes_back, words_come_back};
 use linear::Equation;
-use linear_write::write;
+use linear_write::{WriteFault, write};
 use std::test::Fail;
 
 // One variable of size 3, one program counter; a delay while expression 2 holds, at the rate of expression 5.
@@ -42,11 +42,8 @@ fn files_come_back(rt: HostRuntime) -> Result<(), Fail> {
 #[test]
 fn a_short_buffer_is_left(rt: HostRuntime) {
     let mut out = [7; 14];
-    let number = match write(&Equation::smallest(), &mut out) {
-        Ok(_) => 0,
-        Err(fault) => fault.number(),
-    };
-    assert_eq!(rt; number, 16);
+    let written = write(&Equation::smallest(), &mut out);
+    assert_eq!(rt; written.map_err(WriteFault::number), Err(16));
     for byte in out {
         assert_eq!(rt; byte, 7);
     }
@@ -55,10 +52,7 @@ fn a_short_buffer_is_left(rt: HostRuntime) {
 #[test]
 fn the_smallest_fills_its_buffer(rt: HostRuntime) {
     let mut out = [7; 15];
-    let length = match write(&Equation::smallest(), &mut out) {
-        Ok(length) => length,
-        Err(_) => 0,
-    };
-    assert_eq!(rt; length, 15);
+    let written = write(&Equation::smallest(), &mut out);
+    assert_eq!(rt; written, Ok(15));
     assert!(rt; comes_back(&out));
 }

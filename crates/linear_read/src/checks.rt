@@ -1,101 +1,76 @@
 // Rules over the whole file: the first summand that breaks one.
-ghost use Rattle.std.specs.Prelude.{◌≡◌, true, length};
-ghost use Rattle.linear.specs.Laws.{all, within};
-ghost use Rattle.linear.specs.Reading.{fails_from, named_in, products_in};
-ghost use Rattle.linear.specs.Tables.{list_of, action_of, delay_of, equation_of};
-ghost use Rattle.linear.specs.declared.fault.Group.TheVariants.{Actions, Delays};
-ghost use Rattle.linear_read.specs.Sections.{action_test, delay_test, fault_of};
+ghost use Rattle.std.specs.Prelude.{◌≡◌, ◌<◌, ◌≤◌, not, IfSome};
+ghost use Rattle.std.specs.List.{position_from};
+ghost use Rattle.linear.specs.Faults.{at};
+ghost use Rattle.linear.specs.Laws.{small_sums};
+ghost use Rattle.linear.specs.Reading.{named_in, products_in};
 
-use crate::head::HEAD;
-use crate::rules::{Rule, named_action, named_delay, small_sums};
-use linear::{ActionSummand, DelaySummand, Group, LinearFault, Place, Table};
+use crate::parts::Part;
+use crate::rules::{is_counter, small_sums};
+use linear::{FixedList, Group, HEAD, LinearFault, Place, Summand, Table, WordList};
 
-fn fault_of(rule: Rule, place: Place) -> LinearFault
-    ensures answer { result ≡ fault_of rule place }
+// The first summand that names something that is none, or chooses a variable twice.
+fn misnamed<D: Part>(
+    summands: &FixedList<Summand<D>, 256>,
+    variables: usize,
+    counters: u16,
+) -> Option<usize>
+    ensures answer { result ≡ position_from (λ s. not (D.named variables counters s)) 0 summands.now }
+    ensures small { IfSome result (λ k. k < 256) }
 {
-    match rule {
-        Rule::Named => LinearFault::Misnamed(place),
-        Rule::Small => LinearFault::Product(place),
-    }
+    summands
+        .as_slice()
+        .iter()
+        .position(|summand| !D::is_named(summand, variables, counters))
 }
 
-fn action_keeps(table: &Table, rule: Rule, summand: &ActionSummand) -> bool
-    requires { all (within 1 256) (list_of table.now.sizes) ≡ true }
-    ensures answer { result ≡ action_test rule (length (list_of table.now.sizes)) table.now.counters (list_of table.now.sizes) (action_of summand.now) }
+// The first summand whose sum variables have too many values.
+fn too_large<D: Part>(summands: &FixedList<Summand<D>, 256>, sizes: &WordList) -> Option<usize>
+    ensures answer { result ≡ position_from (λ s. not (small_sums sizes.now s)) 0 summands.now }
+    ensures small { IfSome result (λ k. k < 256) }
 {
-    match rule {
-        Rule::Named => named_action(summand, table.sizes.length(), table.counters),
-        Rule::Small => small_sums(&summand.guard.sums, &table.sizes),
-    }
+    summands
+        .as_slice()
+        .iter()
+        .position(|summand| !small_sums(&summand.when.sums, sizes))
 }
 
-fn delay_keeps(table: &Table, rule: Rule, summand: &DelaySummand) -> bool
-    requires { all (within 1 256) (list_of table.now.sizes) ≡ true }
-    ensures answer { result ≡ delay_test rule (length (list_of table.now.sizes)) table.now.counters (list_of table.now.sizes) (delay_of summand.now) }
+fn place_of(group: Group, index: usize) -> Place
+    requires small { index < 256 }
+    ensures answer { result ≡ at group index }
 {
-    match rule {
-        Rule::Named => named_delay(summand, table.sizes.length(), table.counters),
-        Rule::Small => small_sums(&summand.guard.sums, &table.sizes),
+    Place {
+        group,
+        summand: index as u16,
     }
-}
-
-fn actions_keep(table: &Table, rule: Rule) -> Result<(), LinearFault>
-    requires { all (within 1 256) (list_of table.now.sizes) ≡ true }
-    ensures answer { result ≡ fails_from (action_test rule (length (list_of table.now.sizes)) table.now.counters (list_of table.now.sizes)) (fault_of rule) Actions 0 (equation_of table.now).actions }
-{
-    let mut k = 0;
-    while let Some(summand) = table.action(k) {
-        if !action_keeps(table, rule, &summand) {
-            return Err(fault_of(
-                rule,
-                Place {
-                    group: Group::Actions,
-                    summand: k,
-                },
-            ));
-        }
-        k += 1;
-    }
-    Ok(())
-}
-
-fn delays_keep(table: &Table, rule: Rule) -> Result<(), LinearFault>
-    requires { all (within 1 256) (list_of table.now.sizes) ≡ true }
-    ensures answer { result ≡ fails_from (delay_test rule (length (list_of table.now.sizes)) table.now.counters (list_of table.now.sizes)) (fault_of rule) Delays 0 (equation_of table.now).delays }
-{
-    let mut k = 0;
-    while let Some(summand) = table.delay(k) {
-        if !delay_keeps(table, rule, &summand) {
-            return Err(fault_of(
-                rule,
-                Place {
-                    group: Group::Delays,
-                    summand: k,
-                },
-            ));
-        }
-        k += 1;
-    }
-    Ok(())
 }
 
 // What is named is there, and no variable is chosen twice.
 pub(crate) fn check_names(table: &Table) -> Result<(), LinearFault>
-    requires { all (within 1 256) (list_of table.now.sizes) ≡ true }
-    ensures answer { result ≡ named_in (equation_of table.now) }
+    ensures answer { result ≡ named_in table.now }
 {
-    if table.start < 1 || table.start > table.counters {
+    if !is_counter(table.first.counter, table.counters) {
         return Err(LinearFault::Misnamed(HEAD));
     }
-    actions_keep(table, Rule::Named)?;
-    delays_keep(table, Rule::Named)
+    let variables = table.sizes.len();
+    if let Some(k) = misnamed(&table.actions, variables, table.counters) {
+        return Err(LinearFault::Misnamed(place_of(Group::Actions, k)));
+    }
+    if let Some(k) = misnamed(&table.delays, variables, table.counters) {
+        return Err(LinearFault::Misnamed(place_of(Group::Delays, k)));
+    }
+    Ok(())
 }
 
 // The sizes of each summand's sum variables multiply to at most 65,536.
 pub(crate) fn check_products(table: &Table) -> Result<(), LinearFault>
-    requires { all (within 1 256) (list_of table.now.sizes) ≡ true }
-    ensures answer { result ≡ products_in (equation_of table.now) }
+    ensures answer { result ≡ products_in table.now }
 {
-    actions_keep(table, Rule::Small)?;
-    delays_keep(table, Rule::Small)
+    if let Some(k) = too_large(&table.actions, &table.sizes) {
+        return Err(LinearFault::Product(place_of(Group::Actions, k)));
+    }
+    if let Some(k) = too_large(&table.delays, &table.sizes) {
+        return Err(LinearFault::Product(place_of(Group::Delays, k)));
+    }
+    Ok(())
 }

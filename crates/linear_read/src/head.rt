@@ -1,78 +1,73 @@
 // The head of a linear file: sizes, number of program counters, first vector.
-ghost use Rattle.std.specs.Prelude.{◌≡◌, ◌+◌, ◌*◌, ◌≤◌, [], length, IfOk};
-ghost use Rattle.linear.specs.Reading.{kept_from, head_in, mapped};
-ghost use Rattle.linear.specs.Tables.{list_of};
-ghost use Rattle.linear_read.specs.Sections.{rule_of, head_of};
+ghost use Rattle.std.specs.Prelude.{◌≡◌, ℕ, ◌+◌, ◌*◌, ◌≤◌, Bool, [], length, IfOk};
+ghost use Rattle.linear.specs.Faults.{head};
+ghost use Rattle.linear.specs.Reading.{kept_from, head_in, size_rule, value_rule};
+ghost use Rattle.linear_read.specs.Spots.{begun, to};
 
-use crate::lists::{count_in, word_in};
-use linear::{Group, LinearFault, Place, WordList};
-
-pub(crate) const HEAD: Place = Place {
-    group: Group::Head,
-    summand: 0,
-};
+use crate::reader::Reader;
+use arrayvec::ArrayVec;
+use linear::{HEAD, LinearFault, Vector, WordList};
 
 // What each word of a list in the head keeps.
-#[derive(Clone, Copy)]
-pub(crate) enum HeadRule {
-    // it is a size
-    Size,
-    // it is below the size at its place
-    Value(WordList),
+trait HeadRule {
+    ghost rule: { Self → ℕ → ℕ → Bool };
+
+    fn keeps(&self, index: u16, word: u16) -> bool
+        ensures answer { result ≡ rule self.now index word };
 }
 
-#[derive(Clone, Copy)]
-pub(crate) struct Head {
-    pub(crate) sizes: WordList,
-    pub(crate) counters: u16,
-    pub(crate) start: u16,
-    pub(crate) values: WordList,
-}
+// It is a size.
+struct IsSize;
 
-fn keeps(rule: HeadRule, index: u16, word: u16) -> bool
-    ensures answer { result ≡ rule_of rule index word }
-{
-    match rule {
-        HeadRule::Size => word >= 1 && word <= 256,
-        HeadRule::Value(sizes) => word < sizes.word(index),
+impl HeadRule for IsSize {
+    ghost rule = { λ _. size_rule };
+
+    fn keeps(&self, _index: u16, word: u16) -> bool {
+        (1..=256).contains(&word)
     }
 }
 
-// The words from `at` on, so many, each keeping the rule.
-fn kept_words(bytes: &[u8], rule: HeadRule, count: u16, at: usize) -> Result<WordList, LinearFault>
-    requires { (at ≤ length bytes.now) × (count ≤ 16) }
-    ensures answer { mapped list_of result ≡ kept_from (rule_of rule) bytes.now count 0 at [] }
-    ensures room { IfOk result (λ w. (at + 2 * count ≤ length bytes.now) × (length (list_of w) ≡ count)) }
-{
-    let mut items = [0; 16];
-    let mut end = at;
-    for k in 0..count {
-        let word = word_in(bytes, HEAD, end)?;
-        if !keeps(rule, k, word) {
-            return Err(LinearFault::Limit(HEAD));
+// It is below the size at its place.
+impl HeadRule for WordList {
+    ghost rule = { value_rule };
+
+    fn keeps(&self, index: u16, word: u16) -> bool {
+        word < self.get_or(usize::from(index), 0)
+    }
+}
+
+impl<'a> Reader<'a> {
+    // The next so many words, each keeping the rule.
+    fn kept_words<K: HeadRule>(&mut self, rule: &K, count: u16) -> Result<WordList, LinearFault>
+        requires few { count ≤ 16 }
+        requires place { self.old.place ≡ head }
+        ensures answer { result ≡ kept_from (K.rule rule.now) self.old.bytes count 0 self.old.at [] }
+        ensures moves { IfOk result (λ ws. self.new ≡ to self.old (self.old.at + 2 * count)) }
+        ensures long { IfOk result (λ ws. length ws ≡ count) }
+    {
+        let mut items = ArrayVec::new();
+        for k in 0..count {
+            let word = self.word()?;
+            if !rule.keeps(k, word) {
+                return Err(LinearFault::Limit(HEAD));
+            }
+            items.push(word);
         }
-        items[k as usize] = word;
-        end += 2;
+        Ok(WordList { items })
     }
-    Ok(WordList { count, items })
-}
 
-// The head, which follows the header.
-pub(crate) fn head_in(bytes: &[u8]) -> Result<Head, LinearFault>
-    requires { 5 ≤ length bytes.now }
-    ensures answer { mapped head_of result ≡ head_in bytes.now }
-    ensures room { IfOk result (λ h. 11 + 4 * length (list_of h.sizes) ≤ length bytes.now) }
-{
-    let variables = count_in(bytes, HEAD, 0, 16, 5)?;
-    let sizes = kept_words(bytes, HeadRule::Size, variables, 7)?;
-    let rest = 7 + 2 * variables as usize;
-    let counters = count_in(bytes, HEAD, 1, 256, rest)?;
-    let start = word_in(bytes, HEAD, rest + 2)?;
-    let values = kept_words(bytes, HeadRule::Value(sizes), variables, rest + 4)?;
-    Ok(Head {
-        sizes,
-        counters,
-        start,
-        values,
-    })
+    // The sizes of the variables, the number of program counters and the first vector.
+    pub(crate) fn head(&mut self) -> Result<(WordList, u16, Vector), LinearFault>
+        requires begins { self.old ≡ begun self.old.bytes }
+        ensures answer { result ≡ head_in self.old.bytes }
+        ensures moves { IfOk result (λ h. self.new ≡ record { bytes = self.old.bytes; variables = length h.0; place = head; at = 11 + 4 * length h.0 }) }
+    {
+        let variables = self.count(0, 16)?;
+        let sizes = self.kept_words(&IsSize, variables)?;
+        let counters = self.count(1, 256)?;
+        let counter = self.word()?;
+        let values = self.kept_words(&sizes, variables)?;
+        self.variables = usize::from(variables);
+        Ok((sizes, counters, Vector { counter, values }))
+    }
 }

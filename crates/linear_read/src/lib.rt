@@ -2,14 +2,11 @@
 #![tactic(auto)]
 
 mod checks;
-mod entries;
 mod head;
-mod lists;
 mod parts;
+mod reader;
 mod reading;
 mod rules;
-mod section;
 mod sections;
-mod summands;
 
 pub use reading::read;

@@ -1,43 +1,136 @@
-// The parts of a summand at a position of a linear file.
-ghost use Rattle.std.specs.Prelude.{◌≡◌, ◌+◌, ◌*◌, ◌≤◌, length, IfOk};
-ghost use Rattle.linear.specs.Layout.{guard_words, acts_words};
-ghost use Rattle.linear.specs.Reading.{guard_in, acts_in, past, mapped};
-ghost use Rattle.linear.specs.Tables.{guard_of, act_of};
+// The parts of a summand, and whole summands.
+ghost use Rattle.std.specs.Prelude.{◌≡◌, ℕ, ◌+◌, ◌*◌, ◌≤◌, Bool, List, length, Result, IfOk, OnOk};
+ghost use Rattle.linear.specs.Equations.{Summand};
+ghost use Rattle.linear.specs.Laws.{named_action, named_delay};
+ghost use Rattle.linear.specs.Layout.{guard_words};
+ghost use Rattle.linear.specs.Reading.{guard_in, acts_in, rate_in, leads_in, entry_of, entries_from, summand_in, summand_end, past};
+ghost use Rattle.linear.specs.declared.fault.Place.{Place};
+ghost use Rattle.linear.specs.declared.fault.LinearFault.{LinearFault};
+ghost use Rattle.linear_read.specs.Spots.{to};
+ghost use Rattle.words.specs.Words.{word_at};
 
-use crate::lists::{list_in, word_in};
-use linear::{Act, Guard, LinearFault, Place};
+use crate::reader::Reader;
+use crate::rules::{named_act, named_guard, named_target};
+use arrayvec::ArrayVec;
+use linear::{Act, Doing, Entry, EntryList, Guard, LinearFault, Place, Summand, Target};
+use words::word_at;
 
-// A program counter, the sum variables and the conditions.
-pub(crate) fn guard_in(bytes: &[u8], place: Place, at: usize) -> Result<Guard, LinearFault>
-    requires { at ≤ length bytes.now }
-    ensures answer { mapped guard_of result ≡ guard_in bytes.now place at }
-    ensures room { IfOk result (λ g. past at (guard_words (guard_of g)) ≤ length bytes.now) }
-{
-    let counter = word_in(bytes, place, at)?;
-    let sums = list_in(bytes, place, 8, at + 2)?;
-    let conditions = list_in(bytes, place, 8, at + 4 + 2 * sums.length() as usize)?;
-    Ok(Guard {
-        counter,
-        sums,
-        conditions,
-    })
+// What a summand does, as it stands in a file, and what a summand that does it has to name.
+pub(crate) trait Part: Doing {
+    ghost part_in: { List ℕ → Place → ℕ → Result Self LinearFault };
+
+    ghost named: { ℕ → ℕ → Summand Self → Bool };
+
+    fn read(reader: &mut Reader) -> Result<Self, LinearFault>
+        ensures answer { result ≡ part_in reader.old.bytes reader.old.place reader.old.at }
+        ensures moves { IfOk result (λ d. reader.new ≡ to reader.old (past reader.old.at (Self.words d))) };
+
+    fn is_named(summand: &Summand<Self>, variables: usize, counters: u16) -> bool
+        ensures answer { result ≡ named variables counters summand.now };
 }
 
 // An action, its arguments, its variable and its weight.
-pub(crate) fn act_in(bytes: &[u8], place: Place, at: usize) -> Result<Act, LinearFault>
-    requires { at ≤ length bytes.now }
-    ensures answer { mapped act_of result ≡ acts_in bytes.now place at }
-    ensures room { IfOk result (λ a. past at (acts_words (act_of a)) ≤ length bytes.now) }
+impl Part for Act {
+    ghost part_in = { acts_in };
+
+    ghost named = { named_action };
+
+    fn read(reader: &mut Reader) -> Result<Act, LinearFault> {
+        let action = reader.word()?;
+        let arguments = reader.list(4)?;
+        let variable = reader.word()?;
+        let weight = reader.word()?;
+        Ok(Act {
+            action,
+            arguments,
+            variable,
+            weight,
+        })
+    }
+
+    fn is_named(summand: &Summand<Act>, variables: usize, counters: u16) -> bool {
+        named_guard(&summand.when, variables, counters)
+            && named_act(&summand.does, &summand.when.sums, variables)
+            && named_target(&summand.leads, variables, counters)
+    }
+}
+
+// A rate.
+impl Part for u16 {
+    ghost part_in = { rate_in };
+
+    ghost named = { named_delay };
+
+    fn read(reader: &mut Reader) -> Result<u16, LinearFault> {
+        reader.word()
+    }
+
+    fn is_named(summand: &Summand<u16>, variables: usize, counters: u16) -> bool {
+        named_guard(&summand.when, variables, counters)
+            && named_target(&summand.leads, variables, counters)
+    }
+}
+
+// The entry by the two words at a position, or none.
+fn entry_at(bytes: &[u8], at: usize) -> Option<Entry>
+    requires room { at + 4 ≤ length bytes.now }
+    ensures answer { result ≡ entry_of (word_at bytes.now at) (word_at bytes.now (at + 2)) }
 {
-    let action = word_in(bytes, place, at)?;
-    let arguments = list_in(bytes, place, 4, at + 2)?;
-    let rest = at + 4 + 2 * arguments.length() as usize;
-    let variable = word_in(bytes, place, rest)?;
-    let weight = word_in(bytes, place, rest + 2)?;
-    Ok(Act {
-        action,
-        arguments,
-        variable,
-        weight,
-    })
+    Entry::try_from([word_at(bytes, at), word_at(bytes, at + 2)]).ok()
+}
+
+impl<'a> Reader<'a> {
+    // A program counter, the sum variables and the conditions.
+    fn guard(&mut self) -> Result<Guard, LinearFault>
+        ensures answer { result ≡ guard_in self.old.bytes self.old.place self.old.at }
+        ensures moves { IfOk result (λ g. self.new ≡ to self.old (past self.old.at (guard_words g))) }
+    {
+        let counter = self.word()?;
+        let sums = self.list(8)?;
+        let conditions = self.list(8)?;
+        Ok(Guard {
+            counter,
+            sums,
+            conditions,
+        })
+    }
+
+    // The entries of all variables, which are there, or none where one of them is none.
+    fn entries(&self) -> Option<EntryList>
+        requires room { self.now.at + 4 * self.now.variables ≤ length self.now.bytes }
+        ensures answer { result ≡ entries_from self.now.bytes self.now.at self.now.variables }
+    {
+        let mut items = ArrayVec::new();
+        for i in 0..self.variables {
+            items.push(entry_at(self.bytes, self.at + 4 * i)?);
+        }
+        Some(EntryList { items })
+    }
+
+    // The next program counter, and an entry for each variable. Entries of which one is none are left out:
+    // that is a fault only when all of the file has kept its limits.
+    fn target(&mut self) -> Result<Target, LinearFault>
+        ensures answer { result ≡ leads_in self.old.bytes self.old.place self.old.variables self.old.at }
+        ensures moves { OnOk result (self.new ≡ to self.old (self.old.at + 2 + 4 * self.old.variables)) }
+    {
+        let counter = self.word()?;
+        if self.bytes.len() - self.at < 4 * self.variables {
+            return Err(LinearFault::Length(self.place));
+        }
+        let entries = self.entries().unwrap_or_default();
+        self.at += 4 * self.variables;
+        Ok(Target { counter, entries })
+    }
+
+    // A whole summand, at this place of the file.
+    pub(crate) fn summand<D: Part>(&mut self, place: Place) -> Result<Summand<D>, LinearFault>
+        ensures answer { result ≡ summand_in D.part_in D.words self.old.bytes self.old.variables place self.old.at }
+        ensures moves { IfOk result (λ s. self.new ≡ record { bytes = self.old.bytes; variables = self.old.variables; place = place; at = summand_end D.part_in D.words self.old.variables self.old.at s }) }
+    {
+        self.place = place;
+        let when = self.guard()?;
+        let does = D::read(self)?;
+        let leads = self.target()?;
+        Ok(Summand { when, does, leads })
+    }
 }

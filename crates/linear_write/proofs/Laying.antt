@@ -1,17 +1,13 @@
 -- Words laid one part after another. Assumes nothing.
-use Rattle.std.proofs.Common.{◌≡◌, ℕ, zero, suc, ◌+◌, ◌*◌, ◌/◌, ◌%◌, ◌<◌, ◌≤◌, ◌≢◌, List, [], ◌∷◌, ◌++◌, map, length, get_or, take, drop, set, Some, None, sym, refl, ap, ◌∙◌, ⊎_elim, arith}
+use Rattle.std.proofs.Common.{◌≡◌, ℕ, suc, ◌+◌, ◌-◌, ◌*◌, ◌/◌, ◌%◌, ◌<◌, ◌≤◌, ◌≢◌, List, [], ◌∷◌, ◌++◌, length, take, drop, set, sym, refl, ap, ◌∙◌, ⊎_elim, arith}
 use Rattle.std.proofs.lemmas.Bool.{cases_lt}
-use Rattle.std.specs.List.{flat_map, slice_get}
-use Rattle.std.proofs.lemmas.List.{append-nil, append_assoc, length-append, length-set, set_comm, set-set, take_more, take_more_set, drop-set-lt, take-append-drop, length-take-le, length-map, get_or_append_left, get_or_past, take_at}
+use Rattle.std.proofs.lemmas.List.{append_assoc, length-set, set_comm, set-set, take_more_set, drop-set-lt, drop-drop, length-drop, take-append-drop, get_or_append_left, get_or_past, take_at}
 use Rattle.words.specs.Headers.{version, four_bytes, headed}
 use Rattle.words.specs.Put.{put_word}
 use Rattle.words.specs.Words.{bytes_of, Bytes}
 use Rattle.linear.proofs.Shows.{length_bytes}
-use Rattle.linear.specs.Layout.{entry_words}
 use Rattle.linear.specs.Reading.{past}
-use Rattle.linear.specs.declared.entry.Entry.{Entry}
-use Rattle.linear.specs.declared.entry.Entry.TheVariants.{Reset, Keep, Take}
-use Rattle.linear_write.specs.Laid.{laid, over}
+use Rattle.linear_write.specs.Laid.{laid, topped, over}
 
 pub laid_join : (bs ws vs : List ℕ) (p : ℕ) → laid bs p (ws ++ vs) ≡ laid (laid bs p ws) (past p ws) vs
 laid_join bs [] vs p = let e : p ≡ p + 2 * 0 = omega arith in ap (λ q. laid bs q vs) e
@@ -19,44 +15,12 @@ laid_join bs (w ∷ ws) vs p =
     let e : p + 2 + 2 * length ws ≡ p + 2 * suc (length ws) = omega arith in
     laid_join (put_word bs p w) ws vs (p + 2) ∙ ap (λ q. laid (laid (put_word bs p w) (p + 2) ws) q vs) e
 
--- a part after what was laid, wherever its place is found to be
-pub laid_then : (bs ws vs : List ℕ) (p q : ℕ) → q ≡ past p ws → laid bs p (ws ++ vs) ≡ laid (laid bs p ws) q vs
-laid_then bs ws vs p q e = laid_join bs ws vs p ∙ ap (λ n. laid (laid bs p ws) n vs) (sym e)
-
 pub length_put : (bs : List ℕ) (p w : ℕ) → length (put_word bs p w) ≡ length bs
 length_put bs p w = length-set (set bs p (w / 256)) (p + 1) (w % 256) ∙ length-set bs p (w / 256)
 
 pub length_laid : (bs : List ℕ) (p : ℕ) (ws : List ℕ) → length (laid bs p ws) ≡ length bs
 length_laid bs p [] = refl
 length_laid bs p (w ∷ ws) = length_laid (put_word bs p w) (p + 2) ws ∙ length_put bs p w
-
--- one word more of a list
-pub laid_more : (bs xs : List ℕ) (p i : ℕ) → i < length xs → put_word (laid bs p (take i xs)) (p + 2 * i) (get_or xs i 0) ≡ laid bs p (take (i + 1) xs)
-laid_more bs xs p i lt =
-    let long = length-take-le i xs (omega arith) in
-    sym (ap (laid bs p) (take_more xs i 0 lt) ∙ laid_then bs (take i xs) (get_or xs i 0 ∷ []) p (p + 2 * i) (omega arith))
-
-length_entry : (e : Entry) → length (entry_words e) ≡ 2
-length_entry Reset = refl
-length_entry Keep = refl
-length_entry (Take e) = refl
-
-pub length_entries : (es : List Entry) → length (flat_map entry_words es) ≡ 2 * length es
-length_entries [] = refl
-length_entries (e ∷ es) =
-    let a = length-append (entry_words e) (flat_map entry_words es) in
-    let b = length_entry e in
-    let r = length_entries es in
-    omega arith
-
-joined_push : {X : Type 0} (f : X → List ℕ) (xs : List X) (x : X) → flat_map f (xs ++ (x ∷ [])) ≡ flat_map f xs ++ f x
-joined_push f [] x = append-nil (f x)
-joined_push f (y ∷ ys) x = ap (λ l. f y ++ l) (joined_push f ys x) ∙ sym (append_assoc (f y) (flat_map f ys) (f x))
-
--- one record more, of those that a function gives words to
-pub laid_row : {X : Type 0} (f : X → List ℕ) (bs : List ℕ) (xs : List X) (d : X) (p q i : ℕ) → i < length xs → q ≡ past p (flat_map f (take i xs)) → laid (laid bs p (flat_map f (take i xs))) q (f (get_or xs i d)) ≡ laid bs p (flat_map f (take (i + 1) xs))
-laid_row f bs xs d p q i lt e =
-    sym (ap (laid bs p) (ap (flat_map f) (take_more xs i d lt) ∙ joined_push f (take i xs) (get_or xs i d)) ∙ laid_then bs (flat_map f (take i xs)) (f (get_or xs i d)) p q e)
 
 -- a word put before what is laid may be put after it
 put_swap : (bs : List ℕ) (p q v w : ℕ) → p + 2 ≤ q → put_word (put_word bs q w) p v ≡ put_word (put_word bs p v) q w
@@ -112,118 +76,24 @@ laid_is bs p (w ∷ ws) le =
     ∙ append_assoc (take p bs) (w / 256 ∷ (w % 256 ∷ [])) rest
     ∙ ap (λ l. take p bs ++ (w / 256 ∷ (w % 256 ∷ (bytes_of ws ++ l)))) (put_back bs p w (p + 2 + 2 * length ws) (omega arith) ∙ ap (λ n. drop n bs) e)
 
--- what stands at a place of a list, and the list up to it
-pub take_nth : {X : Type 0} (xs : List X) (k : ℕ) (x : X) → Some x ≡ slice_get xs k → take (k + 1) xs ≡ take k xs ++ (x ∷ [])
-take_nth [] k x is = let z : ◌≡◌ {A = ℕ} 0 1 = cc in absurd (omega arith)
-take_nth (y ∷ ys) zero x is = let e : y ≡ x = cc in ap (λ z. z ∷ []) e
-take_nth (y ∷ ys) (suc k) x is = let e : suc k + 1 ≡ suc (k + 1) = omega arith in ap (λ n. take n (y ∷ ys)) e ∙ ap (λ l. y ∷ l) (take_nth ys k x is)
-
-pub take_end : {X : Type 0} (xs : List X) (k : ℕ) → None ≡ slice_get xs k → take k xs ≡ xs
-take_end [] zero is = refl
-take_end [] (suc k) is = refl
-take_end (y ∷ ys) zero is = let z : ◌≡◌ {A = ℕ} 0 1 = cc in absurd (omega arith)
-take_end (y ∷ ys) (suc k) is = ap (λ l. y ∷ l) (take_end ys k is)
-
-module _ {X : Type 0} (f : X → List ℕ) (xs : List X) (k : ℕ) where
-  pub joined_nth : (x : X) → Some x ≡ slice_get xs k → flat_map f (take (k + 1) xs) ≡ flat_map f (take k xs) ++ f x
-  joined_nth x is = ap (flat_map f) (take_nth xs k x is) ∙ joined_push f (take k xs) x
-
-  pub length_nth : (x : X) → Some x ≡ slice_get xs k → length (flat_map f (take (k + 1) xs)) ≡ length (flat_map f (take k xs)) + length (f x)
-  length_nth x is = ap length (joined_nth x is) ∙ length-append (flat_map f (take k xs)) (f x)
-
-  pub laid_nth : (bs : List ℕ) (p q : ℕ) (x : X) → Some x ≡ slice_get xs k → q ≡ past p (flat_map f (take k xs)) → laid (laid bs p (flat_map f (take k xs))) q (f x) ≡ laid bs p (flat_map f (take (k + 1) xs))
-  laid_nth bs p q x is e = sym (ap (laid bs p) (joined_nth x is) ∙ laid_then bs (flat_map f (take k xs)) (f x) p q e)
-
--- the first so many take no more than all
-joined_take : {X : Type 0} (f : X → List ℕ) (n : ℕ) (xs : List X) → length (flat_map f (take n xs)) ≤ length (flat_map f xs)
-joined_take f zero xs = omega arith
-joined_take f (suc n) [] = omega arith
-joined_take f (suc n) (x ∷ xs) =
-    let a = length-append (f x) (flat_map f (take n xs)) in
-    let b = length-append (f x) (flat_map f xs) in
-    let r = joined_take f n xs in
-    omega arith
-
--- there is room for one record more where there is room for all
-pub room_nth : {X : Type 0} (f : X → List ℕ) (xs : List X) (k : ℕ) (x : X) (p n : ℕ) → Some x ≡ slice_get xs k → past p (flat_map f xs) ≤ n → past (past p (flat_map f (take k xs))) (f x) ≤ n
-room_nth f xs k x p n is le =
-    let a = length_nth f xs k x is in
-    let b = joined_take f (k + 1) xs in
-    omega arith
-
--- the header
-header_bytes : (n : ℕ) → n < 4294967296 → ((n / 65536) / 256 ≡ n / 16777216) × ((n / 65536) % 256 ≡ n / 65536 % 256) × ((n % 65536) / 256 ≡ n / 256 % 256) × ((n % 65536) % 256 ≡ n % 256)
-header_bytes n lt = (omega arith, refl, omega arith, omega arith)
-
-abbrev pub topped : List ℕ → ℕ → List ℕ
-topped bs n = put_word (put_word (set bs 0 1) 1 (n / 65536)) 3 (n % 65536)
-
-pub length_topped : (bs : List ℕ) (n : ℕ) → length (topped bs n) ≡ length bs
-length_topped bs n = length_put (put_word (set bs 0 1) 1 (n / 65536)) 3 (n % 65536) ∙ (length_put (set bs 0 1) 1 (n / 65536) ∙ length-set bs 0 1)
-
-topped_front : (bs : List ℕ) (n : ℕ) → 5 ≤ length bs → n < 4294967296 → take 5 (topped bs n) ≡ version ∷ four_bytes n
-topped_front [] n le lt = absurd (omega arith)
-topped_front (a ∷ []) n le lt = absurd (omega arith)
-topped_front (a ∷ (b ∷ [])) n le lt = absurd (omega arith)
-topped_front (a ∷ (b ∷ (c ∷ []))) n le lt = absurd (omega arith)
-topped_front (a ∷ (b ∷ (c ∷ (d ∷ [])))) n le lt = absurd (omega arith)
-topped_front (a ∷ (b ∷ (c ∷ (d ∷ (e ∷ rest))))) n le lt =
-    let h = header_bytes n lt in
-    let h0 = h.0 in
-    let h2 = h.2 in
-    let h3 = h.3 in
-    cc
+pub length_topped : (bs : List ℕ) (n : ℕ) → 5 ≤ length bs → length (topped bs n) ≡ length bs
+length_topped bs n le = let cut = length-drop 5 bs in omega arith
 
 topped_back : (bs : List ℕ) (n m : ℕ) → 5 ≤ m → drop m (topped bs n) ≡ drop m bs
 topped_back bs n m le =
-    put_back (put_word (set bs 0 1) 1 (n / 65536)) 3 (n % 65536) m (omega arith)
-    ∙ (put_back (set bs 0 1) 1 (n / 65536) m (omega arith) ∙ drop-set-lt m bs 0 1 (omega arith))
+    let k : ℕ = m - 5 in
+    let e : m ≡ 5 + k = omega arith in
+    ap (λ j. drop j (topped bs n)) e ∙ sym (drop-drop k 5 (topped bs n)) ∙ drop-drop k 5 bs ∙ ap (λ j. drop j bs) (sym e)
 
 -- a whole file laid under its header
-pub file_laid : (bs ws : List ℕ) (n : ℕ) → n ≡ length (bytes_of ws) → n < 4294967296 → 5 + n ≤ length bs → laid (topped bs n) 5 ws ≡ over (headed (bytes_of ws)) bs
-file_laid bs ws n is lt le =
+pub file_laid : (bs ws : List ℕ) (n : ℕ) → n ≡ length (bytes_of ws) → 5 + n ≤ length bs → laid (topped bs n) 5 ws ≡ over (headed (bytes_of ws)) bs
+file_laid bs ws n is le =
     let long = length_bytes ws in
-    let same = length_topped bs n in
+    let same = length_topped bs n (omega arith) in
     let end : past 5 ws ≡ length (headed (bytes_of ws)) = omega arith in
     laid_is (topped bs n) 5 ws (omega arith)
-    ∙ ap (λ l. l ++ (bytes_of ws ++ drop (past 5 ws) (topped bs n))) (topped_front bs n (omega arith) lt ∙ ap (λ m. version ∷ four_bytes m) is)
+    ∙ ap (λ l. l ++ (bytes_of ws ++ drop (past 5 ws) (topped bs n))) (ap (λ m. version ∷ four_bytes m) is)
     ∙ ap (λ l. headed (bytes_of ws) ++ l) (topped_back bs n (past 5 ws) (omega arith) ∙ ap (λ m. drop m bs) end)
-
--- how long a file is
-pub file_long : (hw aw dw : List ℕ) → length (headed (bytes_of (hw ++ (aw ++ dw)))) ≡ 5 + 2 * (length hw + (length aw + length dw))
-file_long hw aw dw =
-    let bytes = length_bytes (hw ++ (aw ++ dw)) in
-    let one = length-append hw (aw ++ dw) in
-    let two = length-append aw dw in
-    omega arith
-
--- the three parts of a file, each laid behind the one before
-pub parts_laid : (bs hw aw dw : List ℕ) (p q : ℕ) → p ≡ past 5 hw → q ≡ past p aw → laid (laid (laid bs 5 hw) p aw) q dw ≡ laid bs 5 (hw ++ (aw ++ dw))
-parts_laid bs hw aw dw p q e f = sym (laid_then bs hw (aw ++ dw) 5 p e ∙ laid_then (laid bs 5 hw) aw dw p q f)
-
-module _ {X : Type 0} (f : X → List ℕ) (xs : List X) (k : ℕ) (x : X) (is : Some x ≡ slice_get xs k) (start : List ℕ) (p : ℕ) (out : List ℕ) (n : ℕ) (there : n ≡ past p (flat_map f (take k xs))) (holds : out ≡ laid start p (flat_map f (take k xs))) where
-  -- a section with one summand more
-  pub more_long : (m : ℕ) → m ≡ past n (f x) → m ≡ past p (flat_map f (take (k + 1) xs))
-  more_long m e = let long = length_nth f xs k x is in omega arith
-
-  pub more_laid : (after : List ℕ) → after ≡ laid out n (f x) → after ≡ laid start p (flat_map f (take (k + 1) xs))
-  more_laid after e = e ∙ (ap (λ b. laid b n (f x)) holds ∙ laid_nth f xs k start p n x is there)
-
-  pub more_room : (m : ℕ) → past p (flat_map f xs) ≤ m → past n (f x) ≤ m
-  more_room m le = let r = room_nth f xs k x p m is le in omega arith
-
--- a section that was opened, filled and closed
-pub closed : (out ws : List ℕ) (p n : ℕ) (start : List ℕ) (q : ℕ) (filled : List ℕ) (place count : ℕ) (after : List ℕ) → start ≡ put_word out p 0 → q ≡ p + 2 → filled ≡ laid start q ws → place ≡ p → count ≡ n → after ≡ put_word filled place count → after ≡ laid out p (n ∷ ws)
-closed out ws p n start q filled place count after opened on is there many paid =
-    paid
-    ∙ ap (λ b. put_word b place count) (is ∙ (ap (λ b. laid b q ws) opened ∙ ap (λ m. laid (put_word out p 0) m ws) on))
-    ∙ ap (λ m. put_word (laid (put_word out p 0) (p + 2) ws) m count) there
-    ∙ ap (put_word (laid (put_word out p 0) (p + 2) ws) p) many
-    ∙ section_paid out ws p n
-
--- how many of a table count
-pub front_length : {X Y : Type 0} (f : X → Y) (xs : List X) (n : ℕ) → n ≤ length xs → length (map f (take n xs)) ≡ n
-front_length f xs n le = length-map (take n xs) f ∙ length-take-le n xs le
 
 pub front_bytes : (file rest : List ℕ) → Bytes (file ++ rest) → Bytes file
 front_bytes file rest low i =

@@ -5,8 +5,7 @@ mod fault;
 mod lengths;
 mod parts;
 mod section;
-mod sections;
-mod summands;
+mod writer;
 mod writing;
 
 pub use fault::WriteFault;

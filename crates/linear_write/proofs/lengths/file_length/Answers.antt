@@ -1,16 +1,15 @@
 use Rattle.std.proofs.Common.{◌∷◌, ◌++◌, arith, length-append}
 use Rattle.linear.specs.Layout.{counted, acts_words, rate_words, section_words, head_words, words_of}
-use Rattle.linear.specs.Tables.{equation_of}
 use Rattle.linear.proofs.Shows.{length_bytes}
 use Rattle.linear_write.proofs.lengths.file_length.Goals as goal
 
-pub returns : goal.returns
-returns c =
-    let e = equation_of c.args.table.now in
+pub returns-clause-answer : goal.returns-clause-answer
+returns-clause-answer c =
+    let e = c.args.table.now in
     let acting = section_words acts_words e.actions in
     let waiting = section_words rate_words e.delays in
     let bytes = length_bytes (words_of e) in
     let whole = length-append (head_words e) (acting ++ waiting) in
     let both = length-append acting waiting in
     let head = length-append (counted e.sizes) (e.counters ∷ (e.first.counter ∷ e.first.values)) in
-    record { answer = omega arith; small = (omega arith, omega arith) }
+    omega arith
