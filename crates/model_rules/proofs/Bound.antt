@@ -6,10 +6,9 @@ use Rattle.model_file.specs.declared.layout.Layout.{Layout}
 use Rattle.model_file.specs.Fields.{process_count, first_of, number_of, node_count}
 use Rattle.model_rules.specs.declared.shape.Shape.{Shape}
 use Rattle.model_rules.specs.declared.shape.Shape.TheVariants.{Call, Condition, Choice, Sum, Action, Delay}
-use Rattle.model_rules.specs.declared.tally.Tally.TheVariants.{Parameters, Binders}
 use Rattle.model_rules.specs.Shapes.{shape_at}
 use Rattle.model_rules.specs.Sound.{Once, Binder, parameter, node, Bound, Binds}
-use Rattle.model_rules.specs.Tallies.{one, binders, share, total, variable_once}
+use Rattle.model_rules.specs.Tallies.{one, binders, parameter_share, binder_share, total, variable_once}
 use Rattle.model_rules.proofs.Counts.{one_given, one_is, total_zero, total_none, Single, total_one, total_single}
 use Rattle.model_rules.proofs.Decoded.{is_node, shape_is}
 
@@ -55,10 +54,10 @@ binder_there v (Some s) h = (s, refl, binder_is v s h)
 
 module _ (bs : List ℕ) (l : Layout) (v : ℕ) where
   abbrev parameters : ℕ → ℕ
-  parameters = share bs l (Parameters v)
+  parameters = parameter_share bs l v
 
   abbrev nodes : ℕ → ℕ
-  nodes = share bs l (Binders v)
+  nodes = binder_share bs l v
 
   parameter_one : (i : ℕ) → Binds bs l v (parameter i) → parameters i ≡ 1
   parameter_one i (there, low, high) = run_one (first_of bs l i) (number_of bs l i) v low high

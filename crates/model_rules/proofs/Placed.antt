@@ -4,10 +4,9 @@ use Rattle.std.proofs.lemmas.Bool.{cases_eq, eqb-true, eq-eqb}
 use Rattle.model_file.specs.declared.layout.Layout.{Layout}
 use Rattle.model_file.specs.Fields.{process_count, body_of, node_count}
 use Rattle.model_rules.specs.declared.shape.Shape.{Shape}
-use Rattle.model_rules.specs.declared.tally.Tally.TheVariants.{Bodies, Children}
 use Rattle.model_rules.specs.Shapes.{shape_at, children_of}
 use Rattle.model_rules.specs.Sound.{Once, Place, body, child, Stands}
-use Rattle.model_rules.specs.Tallies.{occurs, children, share, total, node_once}
+use Rattle.model_rules.specs.Tallies.{occurs, children, body_share, child_share, total, node_once}
 use Rattle.model_rules.proofs.Counts.{one_given, one_other, one_is, total_zero, total_none, Single, total_one, total_single, At, occurs_zero, occurs_none, occurs_one, occurs_single}
 use Rattle.model_rules.proofs.Decoded.{is_node, shape_is}
 
@@ -33,10 +32,10 @@ shape_there n (Some s) h = (s, refl)
 
 module _ (bs : List ℕ) (l : Layout) (n : ℕ) where
   abbrev bodies : ℕ → ℕ
-  bodies = share bs l (Bodies n)
+  bodies = body_share bs l n
 
   abbrev kids : ℕ → ℕ
-  kids = share bs l (Children n)
+  kids = child_share bs l n
 
   kids_at_lem : (m : ℕ) (s : Shape) → shape_at bs l m ≡ Some s → kids m ≡ occurs n (children_of s)
   kids_at_lem m s e = ap (children n) e
