@@ -9,7 +9,7 @@ pub struct Process {
 }
 
 // A node. The arguments are two bytes each, high byte first, and a part of the model file.
-#[derive(Clone, Copy)]
+#[derive(Clone, Copy, Debug, PartialEq, Eq)]
 pub enum Node<'a> {
     Call {
         process: u16,
