@@ -12,7 +12,7 @@ some_same : {X : Type 0} {x y : X} → ◌≡◌ {A = Option X} (Some x) (Some y
 some_same e = cc
 
 none_some : {X : Type 0} {x : X} → ◌≡◌ {A = Option X} None (Some x) → ⊥
-none_some e = let z : ◌≡◌ {A = ℕ} 0 1 = cc in omega arith
+none_some e = cc
 
 module _ (g : Flat) where
   abbrev leaf : Tree

@@ -39,7 +39,7 @@ some_same : {X : Type 0} {x y : X} → ◌≡◌ {A = Option X} (Some x) (Some y
 some_same e = cc
 
 none_some : {X : Type 0} {x : X} → ◌≡◌ {A = Option X} None (Some x) → ⊥
-none_some e = let z : ◌≡◌ {A = ℕ} 0 1 = cc in omega arith
+none_some e = cc
 
 -- the first node that binds v, where one does and no other
 owner_node : (v i : ℕ) (ss : List Shape) (n : ℕ) (s : Shape) → slice_get ss n ≡ Some s → Bound s v
@@ -66,7 +66,7 @@ node_same : {m k : ℕ} → node m ≡ node k → m ≡ k
 node_same e = cc
 
 apart : {i m : ℕ} → node m ≡ parameter i → ⊥
-apart e = let z : ◌≡◌ {A = ℕ} 0 1 = cc in omega arith
+apart e = cc
 
 run_length : (xs : List ℕ) (f k : ℕ) → (k ≡ 0 → f ≡ 0) → (0 < k → f + k ≤ length xs) → length (take k (drop f xs)) ≡ k
 run_length xs f k none some =

@@ -1,5 +1,5 @@
 -- The records of a section, one after another. Assumes nothing.
-use Rattle.std.proofs.Common.{◌≡◌, ℕ, suc, ◌+◌, ◌-◌, ◌*◌, ◌<◌, List, Ok, Err, Result, ap, ◌∙◌, mul-suc, add-one, arith}
+use Rattle.std.proofs.Common.{◌≡◌, ℕ, suc, ◌+◌, ◌-◌, ◌*◌, ◌<◌, List, Result, ap, ◌∙◌, mul-suc, add-one, arith}
 use Rattle.model_file.specs.declared.fault.ModelFault.{ModelFault}
 use Rattle.model_file.specs.declared.part.Part.{Part}
 use Rattle.model_file.specs.Faults.{and_then}

@@ -19,7 +19,7 @@ node_same : {m k : ℕ} → node m ≡ node k → m ≡ k
 node_same e = cc
 
 apart : {i m : ℕ} → node m ≡ parameter i → ⊥
-apart e = let z : ◌≡◌ {A = ℕ} 0 1 = cc in omega arith
+apart e = cc
 
 run_one : (f k v : ℕ) → f ≤ v → v < f + k → one (leb f v && ltb v (f + k)) ≡ 1
 run_one f k v low high = grind (arith, nat_tests)

@@ -33,7 +33,7 @@ child_node : {m k m' k' : ℕ} → child m k ≡ child m' k' → m ≡ m'
 child_node e = cc
 
 apart : {i m k : ℕ} → child m k ≡ body i → ⊥
-apart e = let z : ◌≡◌ {A = ℕ} 0 1 = cc in omega arith
+apart e = cc
 
 module _ (bs : List ℕ) (l : Layout) where
   ways_limits : (j n s c p : ℕ) → ways bs l j n s c p ≡ true → limits s c p ≡ true

@@ -12,6 +12,7 @@ pub(crate) fn total<F: Fn(u16) -> u16>(count: u16, share: F) -> usize
     ensures answer { (f : _) → Computes count (F.post share) f → result ≡ total f count 0 }
     ensures small { result ≤ 65536 * count }
 {
+    // A `for`: that the answers of a closure that is passed in have a `sum` that fits is not proved of `map` and `sum`.
     let mut sum = 0;
     for i in 0..count {
         sum += usize::from(share(i));
