@@ -4,9 +4,8 @@ use Rattle.model_file.specs.declared.layout.Layout.{Layout}
 use Rattle.model_file.specs.Fields.{process_count, number_of, action_count, arity_of, node_count}
 use Rattle.model_file.specs.Layouts.{layout_of}
 use Rattle.model_file.proofs.Located.{laid}
-use Rattle.model_rules.specs.declared.shape.Shape.{Shape}
+use Rattle.model_rules.specs.Shapes.{Shape, shape_at}
 use Rattle.model_rules.specs.declared.shape.Shape.TheVariants as shape
-use Rattle.model_rules.specs.Shapes.{shape_at}
 use Rattle.model_rules.specs.Sound.{Names}
 use Rattle.model_rules.proofs.Decoded.{shape_is}
 use Rattle.model.specs.declared.node.Process.{Process}

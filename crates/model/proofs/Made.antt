@@ -7,7 +7,7 @@ use Rattle.model_file.specs.declared.layout.Layout.{Layout}
 use Rattle.model_file.specs.Fields.{variable_count, size_of, process_count, first_of, number_of, start_of, value_of, action_count, arity_of, node_count, argument_count, argument_of}
 use Rattle.model_file.specs.Layouts.{layout_of}
 use Rattle.model_file.specs.Limits.{Between, Run}
-use Rattle.model_rules.specs.declared.shape.Shape.{Shape}
+use Rattle.model_rules.specs.Shapes.{Shape}
 use Rattle.model_rules.specs.declared.shape.Shape.TheVariants.{Call, Condition, Choice, Sum, Action, Delay}
 use Rattle.model_rules.specs.Sound.{IsNode, Names, Bound, parameter, node}
 use Rattle.model_rules.proofs.Decoded.{shape_is}

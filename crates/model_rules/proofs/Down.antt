@@ -1,8 +1,7 @@
 -- The ways down from a node, by its kind. Assumes nothing.
 use Rattle.std.proofs.Common.{◌≡◌, ℕ, zero, suc, ◌-◌, true, ◌&&◌, List, Option, sym, refl, ap, ◌∙◌, arith}
 use Rattle.model_file.specs.declared.layout.Layout.{Layout}
-use Rattle.model_rules.specs.declared.shape.Shape.{Shape}
-use Rattle.model_rules.specs.Shapes.{shape_at}
+use Rattle.model_rules.specs.Shapes.{Shape, shape_at}
 use Rattle.model_rules.specs.Ways.{ways, ways_of, limits}
 
 module _ (bs : List ℕ) (l : Layout) where

@@ -3,8 +3,7 @@ use Rattle.std.proofs.Common.{◌≡◌, ℕ, ◌+◌, ◌<◌, true, List, Some
 use Rattle.std.proofs.lemmas.Bool.{cases_eq, eqb-true, eq-eqb}
 use Rattle.model_file.specs.declared.layout.Layout.{Layout}
 use Rattle.model_file.specs.Fields.{process_count, body_of, node_count}
-use Rattle.model_rules.specs.declared.shape.Shape.{Shape}
-use Rattle.model_rules.specs.Shapes.{shape_at, children_of}
+use Rattle.model_rules.specs.Shapes.{Shape, shape_at, children_of}
 use Rattle.model_rules.specs.Sound.{Once, Place, body, child, Stands}
 use Rattle.model_rules.specs.Tallies.{occurs, children, body_share, child_share, total, node_once}
 use Rattle.model_rules.proofs.Counts.{one_given, one_other, one_is, total_zero, total_none, Single, total_one, total_single, At, occurs_zero, occurs_none, occurs_one, occurs_single}

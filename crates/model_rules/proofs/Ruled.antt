@@ -8,7 +8,7 @@ use Rattle.model_file.specs.Layouts.{layout_of}
 use Rattle.model_file.specs.Limits.{Limits, InLimits}
 use Rattle.model_rules.specs.Rules.{ruled}
 use Rattle.model_rules.specs.Sound.{Names, IsNode, Resting, LeadsTo, Soundly, Sound}
-use Rattle.model_rules.specs.declared.shape.Shape.{Shape}
+use Rattle.model_rules.specs.Shapes.{Shape}
 use Rattle.model_rules.specs.declared.shape.Shape.TheVariants.{Call, Condition, Choice, Sum, Action, Delay}
 use Rattle.model_rules.proofs.Bound.{once_bound, bound_once}
 use Rattle.model_rules.proofs.Held.{Held, rules_held, rules_made}

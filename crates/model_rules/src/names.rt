@@ -23,11 +23,11 @@ pub(crate) fn node_named(file: &ModelFile<'_>, node: u16) -> bool
     ensures answer { result ≡ named file.now.bytes.now file.now.layout node (shape_at file.now.bytes.now file.now.layout node) }
 {
     let nodes = file.node_count();
-    let arguments = file.argument_count();
     match shape_at(file, node) {
         None => false,
-        Some(Shape::Call { process, first }) => {
-            process < file.process_count() && run_fits(arguments, first, file.number(process))
+        Some(Shape::Call { process, arguments }) => {
+            process < file.process_count()
+                && run_fits(file.argument_count(), arguments, file.number(process))
         }
         Some(Shape::Choice { left, right }) => child_fits(nodes, node, left)
             && child_fits(nodes, node, right),
@@ -36,14 +36,14 @@ pub(crate) fn node_named(file: &ModelFile<'_>, node: u16) -> bool
         Some(
             Shape::Action {
                 action,
-                first,
+                arguments,
                 variable,
                 child,
                 ..
             },
         ) => {
             action < file.action_count()
-                && run_fits(arguments, first, file.arity(action))
+                && run_fits(file.argument_count(), arguments, file.arity(action))
                 && variable < file.variable_count()
                 && child_fits(nodes, node, child)
         }

@@ -5,12 +5,12 @@ ghost use Rattle.model_rules.specs.Shapes.{shape_of, shape_at};
 use model_file::ModelFile;
 use words::word_at;
 
-// A node's fields; `first` is its first argument.
+// A node. `arguments` is the number of the first, or what stands for all of them.
 #[derive(Clone, Copy, Debug, PartialEq, Eq)]
-pub enum Shape {
+pub enum Shape<A = u16> {
     Call {
         process: u16,
-        first: u16,
+        arguments: A,
     },
     Condition {
         expression: u16,
@@ -26,7 +26,7 @@ pub enum Shape {
     },
     Action {
         action: u16,
-        first: u16,
+        arguments: A,
         variable: u16,
         weight: u16,
         child: u16,
@@ -42,13 +42,13 @@ fn decode(kind: u16, a: u16, b: u16, c: u16, d: u16, e: u16) -> Option<Shape>
     ensures answer { result ≡ shape_of kind a b c d e }
 {
     let shape = match (kind, a, b, c, d, e) {
-        (1, process, first, 0, 0, 0) => Shape::Call { process, first },
+        (1, process, arguments, 0, 0, 0) => Shape::Call { process, arguments },
         (2, expression, child, 0, 0, 0) => Shape::Condition { expression, child },
         (3, left, right, 0, 0, 0) => Shape::Choice { left, right },
         (4, variable, child, 0, 0, 0) => Shape::Sum { variable, child },
-        (5, action, first, variable, weight, child) => Shape::Action {
+        (5, action, arguments, variable, weight, child) => Shape::Action {
             action,
-            first,
+            arguments,
             variable,
             weight,
             child,

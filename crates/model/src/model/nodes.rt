@@ -24,7 +24,10 @@ fn handed<'a>(file: &ModelFile<'a>, shape: Shape) -> Node<'a>
     ensures answer { Some (node_value result) ≡ value_at file.now.bytes.now file.now.layout (Some shape) }
 {
     match shape {
-        Shape::Call { process, first } => Node::Call {
+        Shape::Call {
+            process,
+            arguments: first,
+        } => Node::Call {
             process,
             arguments: arguments(file, first, file.number(process)),
         },
@@ -33,7 +36,7 @@ fn handed<'a>(file: &ModelFile<'a>, shape: Shape) -> Node<'a>
         Shape::Sum { variable, child } => Node::Sum { variable, child },
         Shape::Action {
             action,
-            first,
+            arguments: first,
             variable,
             weight,
             child,
