@@ -1,5 +1,5 @@
--- A node that is handed out is that of the flat model. Assumes that each byte is below 256.
-use Rattle.std.proofs.Common.{◌≡◌, ℕ, ◌<◌, ◌≤◌, List, get_or, Some, None, Option, sym, refl, ap, ◌∙◌}
+-- A node that is handed out is that of the flat model. Assumes that each byte is below 256, and that the file is accepted.
+use Rattle.std.proofs.Common.{◌≡◌, ℕ, ◌<◌, ◌≤◌, true, is_ok, List, get_or, Some, None, Option, sym, refl, ap, ◌∙◌}
 use Rattle.model_file.specs.declared.layout.Layout.{Layout}
 use Rattle.model_file.specs.Fields.{process_count, number_of, action_count, arity_of, node_count}
 use Rattle.model_file.specs.Layouts.{layout_of}
@@ -10,13 +10,18 @@ use Rattle.model_rules.specs.Sound.{Names}
 use Rattle.model_rules.proofs.Decoded.{shape_is}
 use Rattle.model.specs.declared.node.Process.{Process}
 use Rattle.words.specs.Words.{bytes_of}
+use Rattle.model.specs.Accept.{judged}
 use Rattle.model.specs.Flat.{or_delay, process_of, node_of, flat}
 use Rattle.model.specs.Nodes.{call, action, no_process, call_arity, action_arity, arguments_from, value_in, node_in, argument_bytes, value_at}
 use Rattle.model.specs.WellFormed.{WellFormed}
+use Rattle.model.proofs.Judged.{lawful_well}
 use Rattle.model.proofs.Numbered.{numbered_at, numbered_nth, numbered_none}
 use Rattle.model.proofs.Written.{argument_bytes_lem}
 
-module _ (bs : List ℕ) (low : (i : ℕ) → get_or bs i 0 < 256) (m : WellFormed bs) where
+module _ (bs : List ℕ) (low : (i : ℕ) → get_or bs i 0 < 256) (lawful : is_ok (judged bs) ≡ true) where
+  m : WellFormed bs
+  m = lawful_well bs low lawful
+
   abbrev l : Layout
   l = layout_of bs
 
