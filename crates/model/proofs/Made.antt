@@ -1,5 +1,5 @@
 -- The flat model of a well-formed file has what is supposed of a model. Assumes nothing.
-use Rattle.std.proofs.Common.{◌≡◌, ℕ, zero, suc, ◌+◌, ◌<◌, ◌≤◌, true, false, cond, List, [], ◌∷◌, length, get_or, take, drop, Some, None, Option, sym, refl, ap, ◌∙◌, subst, ⊎_elim, arith}
+use Rattle.std.proofs.Common.{◌≡◌, ℕ, zero, suc, ◌+◌, ◌<◌, ◌≤◌, true, false, cond, List, [], ◌∷◌, length, get_or, take, drop, Some, sym, refl, ap, ◌∙◌, subst, ⊎_elim, arith}
 use Rattle.std.specs.List.{slice_get}
 use Rattle.std.proofs.lemmas.List.{length-take-le, length-drop}
 use Rattle.std.proofs.lemmas.Bool.{cases_lt, cases_eq, cases_Bool, eq-eqb, eqb-true, false≢true}
@@ -7,7 +7,7 @@ use Rattle.model_file.specs.declared.layout.Layout.{Layout}
 use Rattle.model_file.specs.Fields.{variable_count, size_of, process_count, first_of, number_of, start_of, value_of, action_count, arity_of, node_count, argument_count, argument_of}
 use Rattle.model_file.specs.Layouts.{layout_of}
 use Rattle.model_file.specs.Limits.{Between, Run}
-use Rattle.model_rules.specs.declared.shape.Shape.{Shape}
+use Rattle.model_rules.specs.Shapes.{Shape}
 use Rattle.model_rules.specs.declared.shape.Shape.TheVariants.{Call, Condition, Choice, Sum, Action, Delay}
 use Rattle.model_rules.specs.Sound.{IsNode, Names, Bound, parameter, node}
 use Rattle.model_rules.proofs.Decoded.{shape_is}
@@ -16,7 +16,7 @@ use Rattle.model.specs.Flat.{or_delay, process_of, node_of, flat}
 use Rattle.model.specs.Made.{bound_by, owner_from, owner_of, process_in, IsParameter, ChildIn, ArgumentsIn, Fits, Made}
 use Rattle.model.specs.Nodes.{no_process, call_arity, action_arity}
 use Rattle.model.specs.WellFormed.{WellFormed}
-use Rattle.model.proofs.Grown.{tree_is}
+use Rattle.model.proofs.Grown.{some_same, none_some, tree_is}
 use Rattle.model.proofs.Numbered.{numbered_length, numbered_at, numbered_nth, numbered_none}
 
 bound_test : (s : Shape) (v : ℕ) → Bound s v → bound_by s v ≡ true
@@ -34,12 +34,6 @@ test_bound (Choice x y) v h = absurd (false≢true h)
 test_bound (Sum u c) v h = eqb-true u v h
 test_bound (Action a f u w c) v h = eqb-true u v h
 test_bound (Delay r c) v h = absurd (false≢true h)
-
-some_same : {X : Type 0} {x y : X} → ◌≡◌ {A = Option X} (Some x) (Some y) → x ≡ y
-some_same e = cc
-
-none_some : {X : Type 0} {x : X} → ◌≡◌ {A = Option X} None (Some x) → ⊥
-none_some e = let z : ◌≡◌ {A = ℕ} 0 1 = cc in omega arith
 
 -- the first node that binds v, where one does and no other
 owner_node : (v i : ℕ) (ss : List Shape) (n : ℕ) (s : Shape) → slice_get ss n ≡ Some s → Bound s v
@@ -66,7 +60,7 @@ node_same : {m k : ℕ} → node m ≡ node k → m ≡ k
 node_same e = cc
 
 apart : {i m : ℕ} → node m ≡ parameter i → ⊥
-apart e = let z : ◌≡◌ {A = ℕ} 0 1 = cc in omega arith
+apart e = cc
 
 run_length : (xs : List ℕ) (f k : ℕ) → (k ≡ 0 → f ≡ 0) → (0 < k → f + k ≤ length xs) → length (take k (drop f xs)) ≡ k
 run_length xs f k none some =

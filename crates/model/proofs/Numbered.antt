@@ -22,15 +22,5 @@ module _ {X : Type 0} (f : ℕ → X) (n : ℕ) where
   pub numbered_none : (i : ℕ) → n ≤ i → None ≡ slice_get (numbered n f) i
   numbered_none i high = sym (slice_get_past (numbered n f) i (omega (arith, numbered_length)))
 
-  -- what is read at a place that was tested
-  pub read_within : (m i : ℕ) {x : X} (d : X) → m ≡ n → i < m → x ≡ f i → x ≡ get_or (numbered n f) i d
-  read_within m i d same low is = is ∙ numbered_at i d (omega arith)
-
-  pub read_past : (m i : ℕ) (d : X) → m ≡ n → m ≤ i → d ≡ get_or (numbered n f) i d
-  read_past m i d same high = numbered_past i d (omega arith)
-
-  pub nth_within : (m i : ℕ) {x : X} → m ≡ n → i < m → x ≡ f i → Some x ≡ slice_get (numbered n f) i
-  nth_within m i same low is = ap Some is ∙ numbered_nth i (omega arith)
-
-  pub nth_beyond : (m i : ℕ) → m ≡ n → m ≤ i → None ≡ slice_get (numbered n f) i
-  nth_beyond m i same high = numbered_none i (omega arith)
+-- how many there are, and what is read at a place
+pub ruleset places = (numbered_length, numbered_at, numbered_past, numbered_nth, numbered_none)

@@ -9,8 +9,7 @@ use Rattle.model_file.specs.Fields.{variable_count, size_of, process_count, numb
 use Rattle.model_file.specs.Layouts.{layout_of, process_at, node_at, argument_at}
 use Rattle.model_file.specs.Limits.{Limits}
 use Rattle.model_file.proofs.Located.{Laid, laid}
-use Rattle.model_rules.specs.declared.shape.Shape.{Shape}
-use Rattle.model_rules.specs.Shapes.{fields_of}
+use Rattle.model_rules.specs.Shapes.{Shape, fields_of}
 use Rattle.model_rules.specs.Sound.{IsNode, node_words}
 use Rattle.model_rules.proofs.Decoded.{shape_is}
 use Rattle.model.specs.File.{process_words, words_of, file_of}

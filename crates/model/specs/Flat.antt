@@ -6,9 +6,8 @@ use Rattle.std.specs.List.{range_with_len}
 use Rattle.model_file.specs.declared.layout.Layout.{Layout}
 use Rattle.model_file.specs.Fields.{variable_count, size_of, process_count, first_of, number_of, body_of, start_of, value_of, action_count, arity_of, node_count, argument_count, argument_of}
 use Rattle.model_file.specs.Layouts.{layout_of}
-use Rattle.model_rules.specs.declared.shape.Shape.{Shape}
+use Rattle.model_rules.specs.Shapes.{Shape, shape_at}
 use Rattle.model_rules.specs.declared.shape.Shape.TheVariants.{Call, Delay}
-use Rattle.model_rules.specs.Shapes.{shape_at}
 use Rattle.model.specs.declared.node.Process.{Process}
 
 pub record Flat : Type 0 where

@@ -3,13 +3,13 @@
 --     node_value node    what a node that was handed out holds: its arguments as bytes
 use Rattle.std.specs.Prelude.{ℕ, ◌*◌, List, take, drop, Some, None, Option, slice_index, slice_index_or}
 use Rattle.std.specs.List.{slice_get}
+use Rattle.std.specs.Borrow.{Bor}
 use Rattle.model_file.specs.declared.layout.Layout.{Layout}
 use Rattle.model_file.specs.Fields.{number_of, arity_of}
 use Rattle.model_file.specs.Layouts.{argument_at}
-use Rattle.model_rules.specs.declared.shape.Shape.{Shape}
+use Rattle.model_rules.specs.Shapes.{Shape}
+use Rattle.model_rules.specs.declared.shape.Shape as declared
 use Rattle.model_rules.specs.declared.shape.Shape.TheVariants as shape
-use Rattle.model.specs.declared.node.Node.{Node}
-use Rattle.model.specs.declared.node.Node.TheVariants as node
 use Rattle.model.specs.declared.node.Process.{Process}
 use Rattle.words.specs.Words.{bytes_of}
 use Rattle.model.specs.Flat.{Flat}
@@ -22,13 +22,13 @@ pub data NodeValue : Type 0 where
   action : (act : ℕ) (arguments : List ℕ) (variable weight child : ℕ) → NodeValue
   delay : (rate child : ℕ) → NodeValue
 
-abbrev pub node_value : Node → NodeValue
-node_value (node.Call p args) = call p args.now
-node_value (node.Condition x c) = condition x c
-node_value (node.Choice x y) = choice x y
-node_value (node.Sum v c) = sum v c
-node_value (node.Action a args v w c) = action a args.now v w c
-node_value (node.Delay r c) = delay r c
+abbrev pub node_value : declared.Shape (Bor (List ℕ)) → NodeValue
+node_value (shape.Call p args) = call p args.now
+node_value (shape.Condition x c) = condition x c
+node_value (shape.Choice x y) = choice x y
+node_value (shape.Sum v c) = sum v c
+node_value (shape.Action a args v w c) = action a args.now v w c
+node_value (shape.Delay r c) = delay r c
 
 abbrev pub no_process : Process
 no_process = record { first = 0; number = 0; body = 0 }

@@ -2,7 +2,7 @@
 --     grown g i ns   the trees of the nodes ns, the first of which is node i
 --     tree_of g n    the tree of node n
 use Rattle.std.specs.Prelude.{ℕ, suc, ◌-◌, List, [], ◌∷◌, slice_index_or}
-use Rattle.model_rules.specs.declared.shape.Shape.{Shape}
+use Rattle.model_rules.specs.Shapes.{Shape}
 use Rattle.model_rules.specs.declared.shape.Shape.TheVariants as shape
 use Rattle.model.specs.Flat.{Flat}
 use Rattle.model.specs.Nodes.{call_arity, action_arity, arguments_from}

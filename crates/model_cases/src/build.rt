@@ -1,6 +1,11 @@
 // Files made from words, and what becomes of them.
 use model::{Model, accept, open};
+use model_file::FaultCode;
 use std::alloc::{AllocError, Global};
+use std::iter;
+
+// What becomes of a file: it is accepted, or its fault has this number, section and record.
+pub(crate) type Verdict = Result<(), (u16, u16, u16)>;
 
 // The words of the nodes between those of the first four sections, with the count of nodes, and those of the arguments.
 fn sections(
@@ -47,21 +52,21 @@ pub(crate) fn of_nodes(
     heap: Global,
     count: u16,
     nodes: &[[u16; 6]],
-) -> Result<(u16, u16, u16), AllocError> {
+) -> Result<Verdict, AllocError> {
     let words = sections(heap, &[1, 2, 1, 0, 0, 0, 0, 1, 0, count], nodes, &[0])?;
     of_words(heap, &words)
 }
 
-// Number, section and record of the fault; all 0 where the file is accepted.
-pub(crate) fn verdict(bytes: &[u8]) -> (u16, u16, u16) {
+pub(crate) fn verdict(bytes: &[u8]) -> Verdict {
     let mut model = Model::smallest();
-    match accept(open(bytes), &mut model) {
-        Ok(()) => (0, 0, 0),
-        Err(fault) => {
-            let code = fault.code();
-            (code.number, code.section, code.record)
-        }
-    }
+    accept(open(bytes), &mut model).map_err(|fault| {
+        let FaultCode {
+            number,
+            section,
+            record,
+        } = fault.code();
+        (number, section, record)
+    })
 }
 
 // The file of these words, of which there are less than 32,768.
@@ -74,15 +79,12 @@ pub(crate) fn file(heap: Global, words: &[u16]) -> Result<Vec<u8>, AllocError> {
     Ok(bytes)
 }
 
-pub(crate) fn of_words(heap: Global, words: &[u16]) -> Result<(u16, u16, u16), AllocError> {
+pub(crate) fn of_words(heap: Global, words: &[u16]) -> Result<Verdict, AllocError> {
     let bytes = file(heap, words)?;
     Ok(verdict(&bytes))
 }
 
 // So many times the word at the end.
 pub(crate) fn repeat(words: &mut Vec<u16>, word: u16, times: u16) -> Result<(), AllocError> {
-    for _ in 0..times {
-        words.push(word)?;
-    }
-    Ok(())
+    words.extend(iter::repeat_n(word, usize::from(times)))
 }

@@ -10,7 +10,7 @@ use Rattle.model_file.specs.Limits.{Between}
 use Rattle.model_file.specs.Sections.{width, section_of, place_of, fewest, most, keeps, record_fault, records_fault, section_fault}
 
 err_not_ok : {X E : Type 0} {e : E} {x : X} → ◌≡◌ {A = Result X E} (Err e) (Ok x) → ⊥
-err_not_ok h = let z : ◌≡◌ {A = ℕ} 0 1 = cc in omega arith
+err_not_ok h = cc
 
 pub and_then_ok : {X Y : Type 0} (r : Result X ModelFault) (go : X → Result Y ModelFault) {y : Y} → and_then r go ≡ Ok y → (x : X) × (r ≡ Ok x) × (go x ≡ Ok y)
 and_then_ok (Ok x) go h = (x, refl, h)

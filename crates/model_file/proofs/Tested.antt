@@ -136,10 +136,9 @@ pub record Tested (bs : List ℕ) (r : Result (Unit {0}) ModelFault) : Type 0 wh
   pub answer : r ≡ sectioned bs
   pub rules : Iff (r ≡ Ok tt) (InLimits bs)
 
-pub tested : (bs : List ℕ) (l : Layout) (r : Result (Unit {0}) ModelFault) → Ok tt ≡ header_of bs → bs ≡ headed (drop 5 bs) → l ≡ layout_of bs → r ≡ sections_fault bs l → Tested bs r
-tested bs l r head whole at is =
-    let here : r ≡ sections_fault bs (layout_of bs) = is ∙ ap (sections_fault bs) at in
+pub tested : (bs : List ℕ) (r : Result (Unit {0}) ModelFault) → Ok tt ≡ header_of bs → bs ≡ headed (drop 5 bs) → r ≡ sections_fault bs (layout_of bs) → Tested bs r
+tested bs r head whole is =
     record {
-      answer = here ∙ ap (λ h. and_then (or_fault h) (λ _. sections_fault bs (layout_of bs))) head;
-      rules = (λ ok. sections_kept bs (layout_of bs) whole (sym here ∙ ok), λ m. here ∙ sections_made bs (layout_of bs) (laid bs) m);
+      answer = is ∙ ap (λ h. and_then (or_fault h) (λ _. sections_fault bs (layout_of bs))) head;
+      rules = (λ ok. sections_kept bs (layout_of bs) whole (sym is ∙ ok), λ m. is ∙ sections_made bs (layout_of bs) (laid bs) m);
     }

@@ -1,6 +1,6 @@
 // Why a model file is refused. Sections count from 1, records from 0.
 ghost use Rattle.std.specs.Prelude.{◌≡◌};
-ghost use Rattle.model_file.specs.Faults.{fault_code, code_of, of_header};
+ghost use Rattle.model_file.specs.Faults.{code_of, of_header};
 
 use words::HeaderFault;
 
@@ -30,28 +30,23 @@ pub struct FaultCode {
     pub record: u16,
 }
 
-fn coded(number: u16, section: u16, place: u16) -> FaultCode
-    ensures answer { result ≡ fault_code number section place }
-{
-    FaultCode {
-        number,
-        section,
-        record: place,
-    }
-}
-
 impl ModelFault {
     pub fn code(self) -> FaultCode
         ensures answer { result ≡ code_of self }
     {
-        match self {
-            ModelFault::Version => coded(1, 0, 0),
-            ModelFault::Cut { section, record } => coded(2, section, record),
-            ModelFault::Limit { section, record } => coded(3, section, record),
-            ModelFault::Unnamed { section, record } => coded(4, section, record),
-            ModelFault::NotOnce { section, record } => coded(5, section, record),
-            ModelFault::CallElsewhere { node } => coded(7, 5, node),
-            ModelFault::WaysDown { node } => coded(8, 5, node),
+        let (number, section, record) = match self {
+            ModelFault::Version => (1, 0, 0),
+            ModelFault::Cut { section, record } => (2, section, record),
+            ModelFault::Limit { section, record } => (3, section, record),
+            ModelFault::Unnamed { section, record } => (4, section, record),
+            ModelFault::NotOnce { section, record } => (5, section, record),
+            ModelFault::CallElsewhere { node } => (7, 5, node),
+            ModelFault::WaysDown { node } => (8, 5, node),
+        };
+        FaultCode {
+            number,
+            section,
+            record,
         }
     }
 }

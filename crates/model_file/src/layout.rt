@@ -1,7 +1,7 @@
 // Where the sections of a model file begin, and their records.
 ghost use Rattle.std.specs.Prelude.{◌≡◌, ◌+◌, ◌*◌, ◌^◌, ◌<◌};
 ghost use Rattle.words.specs.Words.{word_at};
-ghost use Rattle.model_file.specs.Layouts.{layout_of, size_at, process_at, value_at, arity_at, node_at, argument_at, end_at};
+ghost use Rattle.model_file.specs.Layouts.{layout_of, size_at, process_at, value_at, arity_at, node_at, argument_at};
 
 use words::word_at;
 
@@ -29,8 +29,7 @@ impl Layout {
         ensures answer { result ≡ process_at self process }
         ensures small { result < 2 ^ 40 }
     {
-        let from = self.processes;
-        from as usize + 2 + 6 * usize::from(process)
+        self.processes as usize + 2 + 6 * usize::from(process)
     }
 
     // Where a start value stands.
@@ -38,8 +37,7 @@ impl Layout {
         ensures answer { result ≡ value_at self parameter }
         ensures small { result < 2 ^ 40 }
     {
-        let from = self.start;
-        from as usize + 2 + 2 * usize::from(parameter)
+        self.start as usize + 2 + 2 * usize::from(parameter)
     }
 
     // Where an action's number of arguments stands.
@@ -47,8 +45,7 @@ impl Layout {
         ensures answer { result ≡ arity_at self action }
         ensures small { result < 2 ^ 40 }
     {
-        let from = self.actions;
-        from as usize + 2 + 2 * usize::from(action)
+        self.actions as usize + 2 + 2 * usize::from(action)
     }
 
     // Where the record of a node begins: its kind and five fields.
@@ -56,8 +53,7 @@ impl Layout {
         ensures answer { result ≡ node_at self node }
         ensures small { result < 2 ^ 40 }
     {
-        let from = self.nodes;
-        from as usize + 2 + 12 * usize::from(node)
+        self.nodes as usize + 2 + 12 * usize::from(node)
     }
 
     // Where an argument stands.
@@ -65,16 +61,7 @@ impl Layout {
         ensures answer { result ≡ argument_at self argument }
         ensures small { result < 2 ^ 40 }
     {
-        let from = self.arguments;
-        from as usize + 2 + 2 * usize::from(argument)
-    }
-
-    // Where the file ends.
-    pub(crate) fn end(self, bytes: &[u8]) -> usize
-        ensures answer { result ≡ end_at bytes.now self }
-    {
-        let from = self.arguments;
-        from as usize + 2 + 2 * usize::from(word_at(bytes, from as usize))
+        self.arguments as usize + 2 + 2 * usize::from(argument)
     }
 }
 

@@ -31,67 +31,8 @@ const MOST_NODES: u16 = 256;
 
 const MOST_ARGUMENTS: u16 = 512;
 
-// How many bytes a record has.
-pub(crate) fn width_of(part: Part) -> usize
-    ensures answer { result ≡ width part }
-    ensures small { result ≤ 12 }
-{
-    match part {
-        Part::Process { variables: _ } => 6,
-        Part::Node => 12,
-        _ => 2,
-    }
-}
-
-pub(crate) fn section_of(part: Part) -> u16
-    ensures answer { result ≡ section_of part }
-{
-    match part {
-        Part::Size => 1,
-        Part::Process { variables: _ } => 2,
-        Part::Value { sizes: _ } => 3,
-        Part::Arity => 4,
-        Part::Node => 5,
-        Part::Argument => 6,
-    }
-}
-
-// The number by which record `index` is reported: the start is one record.
-pub(crate) fn place_of(part: Part, index: u16) -> u16
-    ensures answer { result ≡ place_of part index }
-{
-    match part {
-        Part::Value { sizes: _ } => 0,
-        _ => index,
-    }
-}
-
-pub(crate) fn fewest_of(part: Part) -> u16
-    ensures answer { result ≡ fewest part }
-{
-    match part {
-        Part::Process { variables: _ } => 1,
-        Part::Arity => 1,
-        Part::Node => 1,
-        _ => 0,
-    }
-}
-
-pub(crate) fn most_of(part: Part) -> u16
-    ensures answer { result ≡ most part }
-{
-    match part {
-        Part::Size => MOST_VARIABLES,
-        Part::Process { variables: _ } => MOST_PROCESSES,
-        Part::Value { sizes: _ } => MOST_PARAMETERS,
-        Part::Arity => MOST_ACTIONS,
-        Part::Node => MOST_NODES,
-        Part::Argument => MOST_ARGUMENTS,
-    }
-}
-
 // Whether `number` things from `first` on are among `total`; `first` is 0 where there are none.
-fn run_fits(total: u16, first: u16, number: u16) -> bool
+pub fn run_fits(total: u16, first: u16, number: u16) -> bool
     ensures answer { result ≡ run_fits total first number }
 {
     if number == 0 {
@@ -101,25 +42,80 @@ fn run_fits(total: u16, first: u16, number: u16) -> bool
     }
 }
 
-// Whether record `index`, which begins at `at`, keeps its limits.
-pub(crate) fn keeps_limits(bytes: &[u8], part: Part, at: usize, index: u16) -> bool
-    requires { at < 2 ^ 50 }
-    ensures answer { result ≡ keeps bytes.now part at index }
-{
-    let word = word_at(bytes, at);
-    match part {
-        Part::Size => 1 <= word && word <= LARGEST_SIZE,
-        Part::Process { variables } => {
-            let number = word_at(bytes, at + 2);
-            number <= MOST_PARAMETERS && run_fits(variables, word, number)
+impl Part {
+    // How many bytes a record has.
+    pub(crate) fn width(self) -> usize
+        ensures answer { result ≡ width self }
+        ensures small { result ≤ 12 }
+    {
+        match self {
+            Part::Process { .. } => 6,
+            Part::Node => 12,
+            _ => 2,
         }
-        Part::Value { sizes } => word < word_at(bytes, sizes as usize + 2 * usize::from(index)),
-        Part::Arity => if index == 0 {
-            word == 0
-        } else {
-            word <= MOST_ACTION_ARGUMENTS
-        },
-        Part::Node => true,
-        Part::Argument => true,
+    }
+
+    pub(crate) fn section(self) -> u16
+        ensures answer { result ≡ section_of self }
+    {
+        match self {
+            Part::Size => 1,
+            Part::Process { .. } => 2,
+            Part::Value { .. } => 3,
+            Part::Arity => 4,
+            Part::Node => 5,
+            Part::Argument => 6,
+        }
+    }
+
+    // The number by which record `index` is reported: the start is one record.
+    pub(crate) fn place(self, index: u16) -> u16
+        ensures answer { result ≡ place_of self index }
+    {
+        match self {
+            Part::Value { .. } => 0,
+            _ => index,
+        }
+    }
+
+    pub(crate) fn fewest(self) -> u16
+        ensures answer { result ≡ fewest self }
+    {
+        match self {
+            Part::Process { .. } | Part::Arity | Part::Node => 1,
+            _ => 0,
+        }
+    }
+
+    pub(crate) fn most(self) -> u16
+        ensures answer { result ≡ most self }
+    {
+        match self {
+            Part::Size => MOST_VARIABLES,
+            Part::Process { .. } => MOST_PROCESSES,
+            Part::Value { .. } => MOST_PARAMETERS,
+            Part::Arity => MOST_ACTIONS,
+            Part::Node => MOST_NODES,
+            Part::Argument => MOST_ARGUMENTS,
+        }
+    }
+
+    // Whether record `index`, which begins at `at`, keeps its limits.
+    pub(crate) fn keeps_limits(self, bytes: &[u8], at: usize, index: u16) -> bool
+        requires { at < 2 ^ 50 }
+        ensures answer { result ≡ keeps bytes.now self at index }
+    {
+        let word = word_at(bytes, at);
+        match self {
+            Part::Size => (1..=LARGEST_SIZE).contains(&word),
+            Part::Process { variables } => {
+                let number = word_at(bytes, at + 2);
+                number <= MOST_PARAMETERS && run_fits(variables, word, number)
+            }
+            Part::Value { sizes } => word < word_at(bytes, sizes as usize + 2 * usize::from(index)),
+            Part::Arity if index == 0 => word == 0,
+            Part::Arity => word <= MOST_ACTION_ARGUMENTS,
+            Part::Node | Part::Argument => true,
+        }
     }
 }

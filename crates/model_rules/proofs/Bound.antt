@@ -4,12 +4,10 @@ use Rattle.std.proofs.lemmas.Bool.{cases_eq, eqb-true, eq-eqb}
 use Rattle.std.proofs.lemmas.Bool.Decides.{nat_tests}
 use Rattle.model_file.specs.declared.layout.Layout.{Layout}
 use Rattle.model_file.specs.Fields.{process_count, first_of, number_of, node_count}
-use Rattle.model_rules.specs.declared.shape.Shape.{Shape}
+use Rattle.model_rules.specs.Shapes.{Shape, shape_at}
 use Rattle.model_rules.specs.declared.shape.Shape.TheVariants.{Call, Condition, Choice, Sum, Action, Delay}
-use Rattle.model_rules.specs.declared.tally.Tally.TheVariants.{Parameters, Binders}
-use Rattle.model_rules.specs.Shapes.{shape_at}
 use Rattle.model_rules.specs.Sound.{Once, Binder, parameter, node, Bound, Binds}
-use Rattle.model_rules.specs.Tallies.{one, binders, share, total, variable_once}
+use Rattle.model_rules.specs.Tallies.{one, binders, parameter_share, binder_share, total, variable_once}
 use Rattle.model_rules.proofs.Counts.{one_given, one_is, total_zero, total_none, Single, total_one, total_single}
 use Rattle.model_rules.proofs.Decoded.{is_node, shape_is}
 
@@ -20,7 +18,7 @@ node_same : {m k : ℕ} → node m ≡ node k → m ≡ k
 node_same e = cc
 
 apart : {i m : ℕ} → node m ≡ parameter i → ⊥
-apart e = let z : ◌≡◌ {A = ℕ} 0 1 = cc in omega arith
+apart e = cc
 
 run_one : (f k v : ℕ) → f ≤ v → v < f + k → one (leb f v && ltb v (f + k)) ≡ 1
 run_one f k v low high = grind (arith, nat_tests)
@@ -55,10 +53,10 @@ binder_there v (Some s) h = (s, refl, binder_is v s h)
 
 module _ (bs : List ℕ) (l : Layout) (v : ℕ) where
   abbrev parameters : ℕ → ℕ
-  parameters = share bs l (Parameters v)
+  parameters = parameter_share bs l v
 
   abbrev nodes : ℕ → ℕ
-  nodes = share bs l (Binders v)
+  nodes = binder_share bs l v
 
   parameter_one : (i : ℕ) → Binds bs l v (parameter i) → parameters i ≡ 1
   parameter_one i (there, low, high) = run_one (first_of bs l i) (number_of bs l i) v low high

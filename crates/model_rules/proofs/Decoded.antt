@@ -5,9 +5,8 @@ use Rattle.words.specs.Words.{word_at}
 use Rattle.model_file.specs.declared.layout.Layout.{Layout}
 use Rattle.model_file.specs.Fields.{node_count}
 use Rattle.model_file.specs.Layouts.{node_at}
-use Rattle.model_rules.specs.declared.shape.Shape.{Shape}
+use Rattle.model_rules.specs.Shapes.{Shape, shape_of, shape_at, six, fields_of}
 use Rattle.model_rules.specs.declared.shape.Shape.TheVariants.{Call, Condition, Choice, Sum, Action, Delay}
-use Rattle.model_rules.specs.Shapes.{shape_of, shape_at, six, fields_of}
 use Rattle.model_rules.specs.Sound.{IsNode}
 
 module _ (k a b c d e : ℕ) where

@@ -1,16 +1,11 @@
 -- The ways down from a node, by its kind. Assumes nothing.
-use Rattle.std.proofs.Common.{◌≡◌, ℕ, zero, suc, ◌-◌, true, false, ◌&&◌, List, Option, sym, refl, ap, ◌∙◌, arith}
+use Rattle.std.proofs.Common.{◌≡◌, ℕ, zero, suc, ◌-◌, true, ◌&&◌, List, Option, sym, refl, ap, ◌∙◌, arith}
 use Rattle.model_file.specs.declared.layout.Layout.{Layout}
-use Rattle.model_rules.specs.declared.shape.Shape.{Shape}
-use Rattle.model_rules.specs.Shapes.{shape_at}
+use Rattle.model_rules.specs.Shapes.{Shape, shape_at}
 use Rattle.model_rules.specs.Ways.{ways, ways_of, limits}
 
 module _ (bs : List ℕ) (l : Layout) where
-  pub ways_out : (k n s c p : ℕ) → limits s c p ≡ false → false ≡ ways bs l k n s c p
-  ways_out zero n s c p e = sym e
-  ways_out (suc k) n s c p e = sym (ap (λ b. b && ways_of bs (ways bs l k) (shape_at bs l n) s c p) e)
-
-  pub ways_on : (k n s c p : ℕ) → (k ≡ 0 → ⊥) → limits s c p ≡ true
+  ways_on : (k n s c p : ℕ) → (k ≡ 0 → ⊥) → limits s c p ≡ true
       → ways bs l k n s c p ≡ ways_of bs (ways bs l (k - 1)) (shape_at bs l n) s c p
   ways_on zero n s c p h e = absurd (h refl)
   ways_on (suc k) n s c p h e =

@@ -3,12 +3,10 @@ use Rattle.std.proofs.Common.{◌≡◌, ℕ, ◌<◌, Bool, true, false, cond, 
 use Rattle.std.proofs.lemmas.Bool.{cases_Bool, ltb-true, lt-ltb, or_cases, or_left, or_right, and_parts, and_from, not-true, not_from_false, false≢true, both_ways}
 use Rattle.model_file.specs.declared.layout.Layout.{Layout}
 use Rattle.model_file.specs.Fields.{process_count, body_of, node_count}
-use Rattle.model_rules.specs.declared.shape.Shape.{Shape}
+use Rattle.model_rules.specs.Shapes.{Shape, shape_at}
 use Rattle.model_rules.specs.declared.shape.Shape.TheVariants.{Call, Condition, Choice, Sum, Action, Delay}
-use Rattle.model_rules.specs.declared.tally.Tally.TheVariants.{Bodies, Movers}
-use Rattle.model_rules.specs.Shapes.{shape_at}
 use Rattle.model_rules.specs.Sound.{IsBody, LeadsTo, Moved, IsCall, Resting}
-use Rattle.model_rules.specs.Tallies.{movers, share, total, is_call, moved, call_placed, resting}
+use Rattle.model_rules.specs.Tallies.{movers, body_share, mover_share, total, is_call, moved, call_placed, resting}
 use Rattle.model_rules.specs.Tallies as tallies
 use Rattle.model_rules.proofs.Counts.{one_given, one_is, total_some, total_least}
 use Rattle.model_rules.proofs.Decoded.{is_node, shape_is}
@@ -42,27 +40,27 @@ call_there (Some (Delay r c)) h = absurd (false≢true h)
 module _ (bs : List ℕ) (l : Layout) (n : ℕ) where
   pub moved_is : moved bs l n ≡ true → Moved bs l n
   moved_is h =
-      let q = total_some (share bs l (Movers n)) (node_count bs l) 0 (ltb-true 0 (total (share bs l (Movers n)) (node_count bs l) 0) h) in
+      let q = total_some (mover_share bs l n) (node_count bs l) 0 (ltb-true 0 (total (mover_share bs l n) (node_count bs l) 0) h) in
       let m = q.0 in
       let r = mover_there n (shape_at bs l m) q.3 in
       (m, r.0, is_node bs l m r.0 (omega (arith, q.2)) r.1, r.2)
 
   pub moved_made : Moved bs l n → moved bs l n ≡ true
   moved_made (m, s, is, leads) =
-      let one : share bs l (Movers n) m ≡ 1 = ap (movers n) (shape_is bs l m s is) ∙ mover_one n s leads in
-      let low = total_least (share bs l (Movers n)) (node_count bs l) 0 m (omega arith) (omega (arith, is.0)) in
-      lt-ltb 0 (total (share bs l (Movers n)) (node_count bs l) 0) (omega arith)
+      let one : mover_share bs l n m ≡ 1 = ap (movers n) (shape_is bs l m s is) ∙ mover_one n s leads in
+      let low = total_least (mover_share bs l n) (node_count bs l) 0 m (omega arith) (omega (arith, is.0)) in
+      lt-ltb 0 (total (mover_share bs l n) (node_count bs l) 0) (omega arith)
 
   pub body_is : tallies.body bs l n ≡ true → (i : ℕ) × IsBody bs l n i
   body_is h =
-      let q = total_some (share bs l (Bodies n)) (process_count bs l) 0 (ltb-true 0 (total (share bs l (Bodies n)) (process_count bs l) 0) h) in
+      let q = total_some (body_share bs l n) (process_count bs l) 0 (ltb-true 0 (total (body_share bs l n) (process_count bs l) 0) h) in
       (q.0, (omega (arith, q.2), one_is (body_of bs l q.0) n q.3))
 
   pub body_made : (i : ℕ) → IsBody bs l n i → tallies.body bs l n ≡ true
   body_made i (low, at) =
       let one = one_given (body_of bs l i) n at in
-      let least = total_least (share bs l (Bodies n)) (process_count bs l) 0 i (omega arith) (omega arith) in
-      lt-ltb 0 (total (share bs l (Bodies n)) (process_count bs l) 0) (omega arith)
+      let least = total_least (body_share bs l n) (process_count bs l) 0 i (omega arith) (omega arith) in
+      lt-ltb 0 (total (body_share bs l n) (process_count bs l) 0) (omega arith)
 
   pub call_is : n < node_count bs l → is_call (shape_at bs l n) ≡ true → IsCall bs l n
   call_is low h = let q = call_there (shape_at bs l n) h in (q.0, q.1, is_node bs l n (Call q.0 q.1) low q.2)

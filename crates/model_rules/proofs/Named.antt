@@ -5,10 +5,9 @@ use Rattle.model_file.specs.declared.layout.Layout.{Layout}
 use Rattle.model_file.specs.Fields.{variable_count, process_count, number_of, action_count, arity_of, node_count, argument_count}
 use Rattle.model_file.specs.Sections.{run_fits}
 use Rattle.model_file.proofs.Tested.{run_kept, run_made}
-use Rattle.model_rules.specs.declared.shape.Shape.{Shape}
+use Rattle.model_rules.specs.Shapes.{Shape, shape_at}
 use Rattle.model_rules.specs.declared.shape.Shape.TheVariants.{Call, Condition, Choice, Sum, Action, Delay}
 use Rattle.model_rules.specs.Names.{child_fits, named}
-use Rattle.model_rules.specs.Shapes.{shape_at}
 use Rattle.model_rules.specs.Sound.{IsNode, Child, Names}
 use Rattle.model_rules.proofs.Decoded.{is_node, shape_is}
 

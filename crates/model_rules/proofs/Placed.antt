@@ -3,11 +3,9 @@ use Rattle.std.proofs.Common.{◌≡◌, ℕ, ◌+◌, ◌<◌, true, List, Some
 use Rattle.std.proofs.lemmas.Bool.{cases_eq, eqb-true, eq-eqb}
 use Rattle.model_file.specs.declared.layout.Layout.{Layout}
 use Rattle.model_file.specs.Fields.{process_count, body_of, node_count}
-use Rattle.model_rules.specs.declared.shape.Shape.{Shape}
-use Rattle.model_rules.specs.declared.tally.Tally.TheVariants.{Bodies, Children}
-use Rattle.model_rules.specs.Shapes.{shape_at, children_of}
+use Rattle.model_rules.specs.Shapes.{Shape, shape_at, children_of}
 use Rattle.model_rules.specs.Sound.{Once, Place, body, child, Stands}
-use Rattle.model_rules.specs.Tallies.{occurs, children, share, total, node_once}
+use Rattle.model_rules.specs.Tallies.{occurs, children, body_share, child_share, total, node_once}
 use Rattle.model_rules.proofs.Counts.{one_given, one_other, one_is, total_zero, total_none, Single, total_one, total_single, At, occurs_zero, occurs_none, occurs_one, occurs_single}
 use Rattle.model_rules.proofs.Decoded.{is_node, shape_is}
 
@@ -21,7 +19,7 @@ child_node : {m k m' k' : ℕ} → child m k ≡ child m' k' → m ≡ m'
 child_node e = cc
 
 apart : {i m k : ℕ} → child m k ≡ body i → ⊥
-apart e = let z : ◌≡◌ {A = ℕ} 0 1 = cc in omega arith
+apart e = cc
 
 some_same : {s t : Shape} {o : Option Shape} → o ≡ Some s → o ≡ Some t → t ≡ s
 some_same p q = cc
@@ -33,10 +31,10 @@ shape_there n (Some s) h = (s, refl)
 
 module _ (bs : List ℕ) (l : Layout) (n : ℕ) where
   abbrev bodies : ℕ → ℕ
-  bodies = share bs l (Bodies n)
+  bodies = body_share bs l n
 
   abbrev kids : ℕ → ℕ
-  kids = share bs l (Children n)
+  kids = child_share bs l n
 
   kids_at_lem : (m : ℕ) (s : Shape) → shape_at bs l m ≡ Some s → kids m ≡ occurs n (children_of s)
   kids_at_lem m s e = ap (children n) e

@@ -4,9 +4,8 @@ use Rattle.std.proofs.Common.{◌≡◌, ℕ, zero, suc, ◌+◌, ◌-◌, ◌*�
 use Rattle.std.proofs.lemmas.Bool.{and_parts, and_from, leb-true, le-leb}
 use Rattle.model_file.specs.declared.layout.Layout.{Layout}
 use Rattle.model_file.specs.Fields.{variable_count, size_of, node_count, process_count, body_of}
-use Rattle.model_rules.specs.declared.shape.Shape.{Shape}
+use Rattle.model_rules.specs.Shapes.{Shape, shape_at}
 use Rattle.model_rules.specs.declared.shape.Shape.TheVariants.{Call, Condition, Choice, Sum, Action, Delay}
-use Rattle.model_rules.specs.Shapes.{shape_at}
 use Rattle.model_rules.specs.Sound.{Once, body, child, IsNode, Names, Stands, LeadsTo, Moved, IsCall, Resting, Way, here, condition, left, right, sum, Ends}
 use Rattle.model_rules.specs.Tallies.{resting}
 use Rattle.model_rules.specs.Ways.{limits, ways_of, ways, ways_fit}
@@ -33,7 +32,7 @@ child_node : {m k m' k' : ℕ} → child m k ≡ child m' k' → m ≡ m'
 child_node e = cc
 
 apart : {i m k : ℕ} → child m k ≡ body i → ⊥
-apart e = let z : ◌≡◌ {A = ℕ} 0 1 = cc in omega arith
+apart e = cc
 
 module _ (bs : List ℕ) (l : Layout) where
   ways_limits : (j n s c p : ℕ) → ways bs l j n s c p ≡ true → limits s c p ≡ true

@@ -1,15 +1,14 @@
 -- The rules have no fault just where the nodes are sound, in a file within its limits.
-use Rattle.std.proofs.Common.{◌≡◌, ℕ, ◌<◌, List, Ok, Result, sym, ap, ◌∙◌, subst, inl, inr}
+use Rattle.std.proofs.Common.{◌≡◌, ℕ, ◌<◌, List, Ok, subst, inl, inr}
 use Rattle.std.proofs.lemmas.Bool.{ltb-true, lt-ltb}
 use Rattle.words.specs.Headers.{Iff}
-use Rattle.model_file.specs.declared.fault.ModelFault.{ModelFault}
 use Rattle.model_file.specs.declared.layout.Layout.{Layout}
 use Rattle.model_file.specs.Fields.{body_of, node_count}
 use Rattle.model_file.specs.Layouts.{layout_of}
 use Rattle.model_file.specs.Limits.{Limits, InLimits}
-use Rattle.model_rules.specs.Rules.{rules_fault, ruled}
+use Rattle.model_rules.specs.Rules.{ruled}
 use Rattle.model_rules.specs.Sound.{Names, IsNode, Resting, LeadsTo, Soundly, Sound}
-use Rattle.model_rules.specs.declared.shape.Shape.{Shape}
+use Rattle.model_rules.specs.Shapes.{Shape}
 use Rattle.model_rules.specs.declared.shape.Shape.TheVariants.{Call, Condition, Choice, Sum, Action, Delay}
 use Rattle.model_rules.proofs.Bound.{once_bound, bound_once}
 use Rattle.model_rules.proofs.Held.{Held, rules_held, rules_made}
@@ -58,13 +57,3 @@ module _ (bs : List ℕ) (l : Layout) where
 pub rules_are : (bs : List ℕ) → InLimits bs → Iff (ruled bs ≡ Ok tt) (Sound bs)
 rules_are bs limits =
     (λ ok. soundly bs (layout_of bs) (rules_held bs (layout_of bs) ok), λ m. rules_made bs (layout_of bs) (held bs (layout_of bs) limits m))
-
--- what the clauses of a test of the rules say together
-pub record Tested (bs : List ℕ) (r : Result (Unit {0}) ModelFault) : Type 0 where
-  pub answer : r ≡ ruled bs
-  pub rules : InLimits bs → Iff (r ≡ Ok tt) (Sound bs)
-
-pub tested : (bs : List ℕ) (l : Layout) (r : Result (Unit {0}) ModelFault) → l ≡ layout_of bs → r ≡ rules_fault bs l → Tested bs r
-tested bs l r at is =
-    let here : r ≡ ruled bs = is ∙ ap (rules_fault bs) at in
-    record { answer = here; rules = λ limits. let q = rules_are bs limits in (λ ok. q.0 (sym here ∙ ok), λ m. here ∙ q.1 m) }

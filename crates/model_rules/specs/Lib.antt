@@ -1,3 +1,4 @@
+pub mod Calls
 pub mod Names
 pub mod Rules
 pub mod Shapes

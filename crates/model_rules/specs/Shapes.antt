@@ -7,8 +7,12 @@ use Rattle.std.specs.Prelude.{ℕ, ◌+◌, Bool, cond, ◌&&◌, List, [], ◌�
 use Rattle.words.specs.Words.{word_at}
 use Rattle.model_file.specs.declared.layout.Layout.{Layout}
 use Rattle.model_file.specs.Layouts.{node_at}
-use Rattle.model_rules.specs.declared.shape.Shape.{Shape}
+use Rattle.model_rules.specs.declared.shape.Shape as declared
 use Rattle.model_rules.specs.declared.shape.Shape.TheVariants.{Call, Condition, Choice, Sum, Action, Delay}
+
+-- a node as the file has it, with the number of its first argument
+abbrev pub Shape : Type 0
+Shape = declared.Shape ℕ
 
 abbrev pub zeros : ℕ → ℕ → ℕ → Bool
 zeros c d e = c == 0 && d == 0 && e == 0

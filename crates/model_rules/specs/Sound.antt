@@ -13,9 +13,8 @@ use Rattle.model_file.specs.declared.layout.Layout.{Layout}
 use Rattle.model_file.specs.Fields.{variable_count, size_of, process_count, first_of, number_of, body_of, action_count, arity_of, node_count, argument_count}
 use Rattle.model_file.specs.Layouts.{layout_of, node_at}
 use Rattle.model_file.specs.Limits.{Run}
-use Rattle.model_rules.specs.declared.shape.Shape.{Shape}
+use Rattle.model_rules.specs.Shapes.{Shape, six, fields_of, children_of}
 use Rattle.model_rules.specs.declared.shape.Shape.TheVariants.{Call, Condition, Choice, Sum, Action, Delay}
-use Rattle.model_rules.specs.Shapes.{six, fields_of, children_of}
 
 abbrev pub Once : {X : Type 0} → (X → Type 0) → Type 0
 Once {X} P = (x : X) × P x × ((y : X) → P y → y ≡ x)

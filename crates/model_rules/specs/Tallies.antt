@@ -2,11 +2,8 @@
 use Rattle.std.specs.Prelude.{ℕ, zero, suc, ◌+◌, Bool, true, false, cond, not, ◌&&◌, ◌||◌, List, [], ◌∷◌, Some, None, Option, ◌==◌, nat_le, nat_lt}
 use Rattle.model_file.specs.declared.layout.Layout.{Layout}
 use Rattle.model_file.specs.Fields.{process_count, first_of, number_of, body_of, node_count}
-use Rattle.model_rules.specs.declared.shape.Shape.{Shape}
+use Rattle.model_rules.specs.Shapes.{Shape, shape_at, children_of}
 use Rattle.model_rules.specs.declared.shape.Shape.TheVariants.{Call, Condition, Choice, Sum, Action, Delay}
-use Rattle.model_rules.specs.declared.tally.Tally.{Tally}
-use Rattle.model_rules.specs.declared.tally.Tally.TheVariants.{Bodies, Children, Movers, Parameters, Binders}
-use Rattle.model_rules.specs.Shapes.{shape_at, children_of}
 
 abbrev pub one : Bool → ℕ
 one b = cond b 1 0
@@ -54,26 +51,39 @@ is_call (Some (Action a f v w c)) = false
 is_call (Some (Delay r c)) = false
 
 module _ (bs : List ℕ) (l : Layout) where
-  -- the share of record i
-  abbrev pub share : Tally → ℕ → ℕ
-  share (Bodies n) i = one (body_of bs l i == n)
-  share (Children n) i = children n (shape_at bs l i)
-  share (Movers n) i = movers n (shape_at bs l i)
-  share (Parameters v) i = one (nat_le (first_of bs l i) v && nat_lt v (first_of bs l i + number_of bs l i))
-  share (Binders v) i = binders v (shape_at bs l i)
+  -- v is a parameter of process i
+  abbrev pub is_parameter : ℕ → ℕ → Bool
+  is_parameter i v = nat_le (first_of bs l i) v && nat_lt v (first_of bs l i + number_of bs l i)
+
+  -- the share of record i: whether its process has the body n, or the parameter v;
+  -- how often its node has the child n, leads to it, or binds the variable v
+  abbrev pub body_share : ℕ → ℕ → ℕ
+  body_share n i = one (body_of bs l i == n)
+
+  abbrev pub child_share : ℕ → ℕ → ℕ
+  child_share n i = children n (shape_at bs l i)
+
+  abbrev pub mover_share : ℕ → ℕ → ℕ
+  mover_share n i = movers n (shape_at bs l i)
+
+  abbrev pub parameter_share : ℕ → ℕ → ℕ
+  parameter_share v i = one (is_parameter i v)
+
+  abbrev pub binder_share : ℕ → ℕ → ℕ
+  binder_share v i = binders v (shape_at bs l i)
 
   abbrev pub node_once : ℕ → Bool
-  node_once n = total (share (Bodies n)) (process_count bs l) 0 + total (share (Children n)) (node_count bs l) 0 == 1
+  node_once n = total (body_share n) (process_count bs l) 0 + total (child_share n) (node_count bs l) 0 == 1
 
   abbrev pub variable_once : ℕ → Bool
-  variable_once v = total (share (Parameters v)) (process_count bs l) 0 + total (share (Binders v)) (node_count bs l) 0 == 1
+  variable_once v = total (parameter_share v) (process_count bs l) 0 + total (binder_share v) (node_count bs l) 0 == 1
 
   -- the child of an action or a delay
   abbrev pub moved : ℕ → Bool
-  moved n = nat_lt 0 (total (share (Movers n)) (node_count bs l) 0)
+  moved n = nat_lt 0 (total (mover_share n) (node_count bs l) 0)
 
   abbrev pub body : ℕ → Bool
-  body n = nat_lt 0 (total (share (Bodies n)) (process_count bs l) 0)
+  body n = nat_lt 0 (total (body_share n) (process_count bs l) 0)
 
   abbrev pub call_placed : ℕ → Bool
   call_placed n = cond (is_call (shape_at bs l n)) (moved n) true

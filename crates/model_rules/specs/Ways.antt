@@ -2,9 +2,8 @@
 use Rattle.std.specs.Prelude.{ℕ, zero, suc, ◌+◌, ◌*◌, Bool, true, cond, ◌&&◌, List, Some, None, Option, nat_le}
 use Rattle.model_file.specs.declared.layout.Layout.{Layout}
 use Rattle.model_file.specs.Fields.{size_of, node_count}
-use Rattle.model_rules.specs.declared.shape.Shape.{Shape}
+use Rattle.model_rules.specs.Shapes.{Shape, shape_at}
 use Rattle.model_rules.specs.declared.shape.Shape.TheVariants.{Call, Condition, Choice, Sum, Action, Delay}
-use Rattle.model_rules.specs.Shapes.{shape_at}
 use Rattle.model_rules.specs.Tallies.{resting}
 
 abbrev pub limits : ℕ → ℕ → ℕ → Bool

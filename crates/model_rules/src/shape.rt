@@ -2,15 +2,15 @@
 ghost use Rattle.std.specs.Prelude.{◌≡◌};
 ghost use Rattle.model_rules.specs.Shapes.{shape_of, shape_at};
 
-use model_file::Layout;
+use model_file::ModelFile;
 use words::word_at;
 
-// A node's fields; `first` is its first argument.
+// A node. `arguments` is the number of the first, or what stands for all of them.
 #[derive(Clone, Copy, Debug, PartialEq, Eq)]
-pub enum Shape {
+pub enum Shape<A = u16> {
     Call {
         process: u16,
-        first: u16,
+        arguments: A,
     },
     Condition {
         expression: u16,
@@ -26,7 +26,7 @@ pub enum Shape {
     },
     Action {
         action: u16,
-        first: u16,
+        arguments: A,
         variable: u16,
         weight: u16,
         child: u16,
@@ -41,43 +41,35 @@ pub enum Shape {
 fn decode(kind: u16, a: u16, b: u16, c: u16, d: u16, e: u16) -> Option<Shape>
     ensures answer { result ≡ shape_of kind a b c d e }
 {
-    match kind {
-        1 if c == 0 && d == 0 && e == 0 => Some(Shape::Call {
-            process: a,
-            first: b,
-        }),
-        2 if c == 0 && d == 0 && e == 0 => Some(Shape::Condition {
-            expression: a,
-            child: b,
-        }),
-        3 if c == 0 && d == 0 && e == 0 => Some(Shape::Choice { left: a, right: b }),
-        4 if c == 0 && d == 0 && e == 0 => Some(Shape::Sum {
-            variable: a,
-            child: b,
-        }),
-        5 => Some(Shape::Action {
-            action: a,
-            first: b,
-            variable: c,
-            weight: d,
-            child: e,
-        }),
-        6 if c == 0 && d == 0 && e == 0 => Some(Shape::Delay { rate: a, child: b }),
-        _ => None,
-    }
+    let shape = match (kind, a, b, c, d, e) {
+        (1, process, arguments, 0, 0, 0) => Shape::Call { process, arguments },
+        (2, expression, child, 0, 0, 0) => Shape::Condition { expression, child },
+        (3, left, right, 0, 0, 0) => Shape::Choice { left, right },
+        (4, variable, child, 0, 0, 0) => Shape::Sum { variable, child },
+        (5, action, arguments, variable, weight, child) => Shape::Action {
+            action,
+            arguments,
+            variable,
+            weight,
+            child,
+        },
+        (6, rate, child, 0, 0, 0) => Shape::Delay { rate, child },
+        _ => return None,
+    };
+    Some(shape)
 }
 
 // The node whose record is the one of this number, whether or not the file has so many.
-pub fn shape_at(bytes: &[u8], layout: Layout, node: u16) -> Option<Shape>
-    ensures answer { result ≡ shape_at bytes.now layout node }
+pub fn shape_at(file: &ModelFile<'_>, node: u16) -> Option<Shape>
+    ensures answer { result ≡ shape_at file.now.bytes.now file.now.layout node }
 {
-    let at = layout.node(node);
+    let at = file.layout.node(node);
     decode(
-        word_at(bytes, at),
-        word_at(bytes, at + 2),
-        word_at(bytes, at + 4),
-        word_at(bytes, at + 6),
-        word_at(bytes, at + 8),
-        word_at(bytes, at + 10),
+        word_at(file.bytes, at),
+        word_at(file.bytes, at + 2),
+        word_at(file.bytes, at + 4),
+        word_at(file.bytes, at + 6),
+        word_at(file.bytes, at + 8),
+        word_at(file.bytes, at + 10),
     )
 }

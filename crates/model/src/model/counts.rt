@@ -1,26 +1,39 @@
 // What a model has, section by section.
+#![tactic(auto, using(crate::proofs::Numbered::places))]
+
 ghost use Rattle.std.specs.Prelude.{◌≡◌, ◌+◌, ◌*◌, length, slice_index};
 ghost use Rattle.std.specs.List.{slice_get};
+ghost use Rattle.model_file.specs.Layouts.{layout_of};
 ghost use Rattle.model.specs.Flat.{flat, footprint_of};
 
 use super::Model;
 use crate::node::Process;
-use model_file::{Layout, locate};
-use words::word_at;
+use model_file::ModelFile;
 
 impl<'a> Model<'a> {
+    fn file(&self) -> ModelFile<'a>
+        ensures bytes { result.bytes.now ≡ self.now.bytes.now }
+        ensures layout { result.layout ≡ layout_of self.now.bytes.now }
+    {
+        ModelFile {
+            bytes: self.bytes,
+            layout: self.layout,
+        }
+    }
+
     pub fn variable_count(&self) -> u16
         ensures answer { result ≡ length (flat self.now.bytes.now).sizes }
     {
-        word_at(self.bytes, 5)
+        self.file().variable_count()
     }
 
     // The size of a variable; 0 where there is none.
     pub fn size(&self, variable: u16) -> u16
         ensures answer { result ≡ slice_index (flat self.now.bytes.now).sizes variable }
     {
-        if variable < word_at(self.bytes, 5) {
-            word_at(self.bytes, Layout::size(variable))
+        let file = self.file();
+        if variable < file.variable_count() {
+            file.size(variable)
         } else {
             0
         }
@@ -29,42 +42,36 @@ impl<'a> Model<'a> {
     pub fn process_count(&self) -> u16
         ensures answer { result ≡ length (flat self.now.bytes.now).processes }
     {
-        let layout = locate(self.bytes);
-        word_at(self.bytes, layout.processes as usize)
+        self.file().process_count()
     }
 
     pub fn process(&self, process: u16) -> Option<Process>
         ensures answer { result ≡ slice_get (flat self.now.bytes.now).processes process }
     {
-        let bytes = self.bytes;
-        let layout = locate(bytes);
-        if process >= word_at(bytes, layout.processes as usize) {
+        let file = self.file();
+        if process >= file.process_count() {
             return None;
         }
-        let at = layout.process(process);
         Some(Process {
-            first: word_at(bytes, at),
-            number: word_at(bytes, at + 2),
-            body: word_at(bytes, at + 4),
+            first: file.first(process),
+            number: file.number(process),
+            body: file.body(process),
         })
     }
 
     pub fn start_process(&self) -> u16
         ensures answer { result ≡ (flat self.now.bytes.now).start }
     {
-        let layout = locate(self.bytes);
-        word_at(self.bytes, layout.start as usize)
+        self.file().start()
     }
 
     // The start value of a parameter, which the start process counts from 0; 0 where there is none.
     pub fn start_value(&self, parameter: u16) -> u16
         ensures answer { result ≡ slice_index (flat self.now.bytes.now).values parameter }
     {
-        let bytes = self.bytes;
-        let layout = locate(bytes);
-        let process = word_at(bytes, layout.start as usize);
-        if parameter < word_at(bytes, layout.process(process) + 2) {
-            word_at(bytes, layout.value(parameter))
+        let file = self.file();
+        if parameter < file.number(file.start()) {
+            file.value(parameter)
         } else {
             0
         }
@@ -73,18 +80,16 @@ impl<'a> Model<'a> {
     pub fn action_count(&self) -> u16
         ensures answer { result ≡ length (flat self.now.bytes.now).arities }
     {
-        let layout = locate(self.bytes);
-        word_at(self.bytes, layout.actions as usize)
+        self.file().action_count()
     }
 
     // The number of arguments of an action; 0 where there is none.
     pub fn arity(&self, action: u16) -> u16
         ensures answer { result ≡ slice_index (flat self.now.bytes.now).arities action }
     {
-        let bytes = self.bytes;
-        let layout = locate(bytes);
-        if action < word_at(bytes, layout.actions as usize) {
-            word_at(bytes, layout.arity(action))
+        let file = self.file();
+        if action < file.action_count() {
+            file.arity(action)
         } else {
             0
         }
@@ -93,8 +98,7 @@ impl<'a> Model<'a> {
     pub fn node_count(&self) -> u16
         ensures answer { result ≡ length (flat self.now.bytes.now).nodes }
     {
-        let layout = locate(self.bytes);
-        word_at(self.bytes, layout.nodes as usize)
+        self.file().node_count()
     }
 
     // A number of bytes that no linear file of the model exceeds.

@@ -8,7 +8,7 @@ ghost use Rattle.model.specs.WellFormed.{WellFormed};
 ghost use Rattle.words.specs.Headers.{Iff};
 
 use super::{Draft, Model};
-use model_file::{ModelFault, check_sections};
+use model_file::{ModelFault, check_sections, locate};
 use model_rules::check_rules;
 
 pub fn open<'a>(bytes: &'a [u8]) -> Draft<'a>
@@ -37,7 +37,8 @@ pub fn accept<'a>(draft: Draft<'a>, into: &mut Model<'a>) -> Result<(), ModelFau
 {
     let Draft { bytes } = draft;
     judge(bytes)?;
-    into.bytes = bytes;
+    let layout = locate(bytes);
+    *into = Model { bytes, layout };
     Ok(())
 }
 
@@ -50,6 +51,9 @@ impl<'a> Model<'a> {
     pub fn smallest() -> Model<'a>
         ensures answer { flat result.bytes.now ≡ smallest_flat }
     {
-        Model { bytes: SMALLEST }
+        Model {
+            bytes: SMALLEST,
+            layout: locate(SMALLEST),
+        }
     }
 }

@@ -1,12 +1,18 @@
-use Rattle.std.proofs.Common.{sym, ◌∙◌, rules}
-use Rattle.std.proofs.lemmas.Result.{err_from_is_err_and}
-use Rattle.model_rules.proofs.Firsts.{first_more, first_exit}
+use Rattle.std.proofs.Common.{true, false, Err, sym, ap, ◌∙◌}
+use Rattle.model_rules.proofs.Firsts.{first_more, first_found}
 use Rattle.model_rules.proofs.rules.check_each.Goals as goal
 
-pub returns-in_err-check_rule : goal.returns-in_err-check_rule
-returns-in_err-check_rule c =
-    let p = err_from_is_err_and c.from_residual.result c.from_residual.ensures.1 in
-    record { answer = first_exit c.args.bytes.now c.args.layout c.args.rule _ c.loop-i.i p.1 p.2 c.loop-i.invariant c.loop-i-test.true (sym c.check_rule.ensures.answer ∙ c.in_err-check_rule.was) }
+pub returns-then-not-holds : goal.returns-then-not-holds
+returns-then-not-holds g c = record {
+  answer = λ h f holds fault.
+      let low = c.loop-i-test.true in
+      let breaks = holds c.loop-i.i false low c.if-not-holds.ensures in
+      let gives = fault c.loop-i.i c.fault.result low c.fault.ensures in
+      ap Err gives ∙ sym (c.loop-i.invariant h f holds fault ∙ first_found h f c.args.count c.loop-i.i low (sym breaks));
+}
 
 pub loop-i-preserved : goal.loop-i-preserved
-loop-i-preserved c = search (rules, first_more)
+loop-i-preserved g c = λ h f holds fault.
+    let low = c.loop-i-test.true in
+    let keeps = holds c.loop-i.i true low c.if-not-holds.ensures in
+    c.loop-i.invariant h f holds fault ∙ first_more h f c.args.count c.loop-i.i low (sym keeps)

@@ -1,24 +1,29 @@
-use Rattle.std.proofs.Common.{ap, ◌∙◌, arith}
-use Rattle.words.specs.Words.{word_at}
-use Rattle.model_file.specs.declared.layout.Layout.{Layout}
+use Rattle.std.proofs.Common.{◌≡◌, Some, None, ap, ◌∙◌, arith}
+use Rattle.std.specs.Option.{option_map}
+use Rattle.model_file.specs.Fields.{node_count}
+use Rattle.model_file.specs.Layouts.{layout_of}
 use Rattle.model_rules.specs.Shapes.{shape_at}
-use Rattle.model.specs.Nodes.{value_at}
-use Rattle.model.proofs.Handed.{node_there, node_past}
-use Rattle.model.proofs.Judged.{lawful_well}
+use Rattle.model.specs.Nodes.{node_value}
+use Rattle.model.proofs.Handed.{node_shaped, node_past}
 use Rattle.model.proofs.model.nodes.node_in.Goals as goal
 
-pub returns-then-node-word_at : goal.returns-then-node-word_at
-returns-then-node-word_at c =
+pub returns-then-node-node_count : goal.returns-then-node-node_count
+returns-then-node-node_count c =
     let bs = c.args.bytes.now in
-    let well = lawful_well bs (λ i. omega (arith, c.type_inv.bytes i)) c.requires in
-    let count = c.word_at.ensures.answer ∙ ap (λ (l : Layout). word_at bs l.nodes) c.locate-layout.ensures.answer in
-    record { answer = node_past bs (λ i. omega (arith, c.type_inv.bytes i)) well c.args.node (omega arith) }
+    let count : c.node_count.result ≡ node_count bs (layout_of bs) = cc in
+    record { answer = node_past bs (λ i. omega (arith, c.type_inv.bytes i)) c.requires.lawful c.args.node (rw count at c.if-node-node_count.true) }
+
+pub returns-in_err-shape : goal.returns-in_err-shape
+returns-in_err-shape c =
+    let bs = c.args.bytes.now in
+    let count : c.node_count.result ≡ node_count bs (layout_of bs) = cc in
+    let is : None ≡ shape_at bs (layout_of bs) c.args.node = cc (c.in_err-shape.was) in
+    record { answer = ap (option_map node_value) c.from_residual.ensures ∙ node_shaped bs (λ i. omega (arith, c.type_inv.bytes i)) c.requires.lawful c.args.node None (rw count at c.if-node-node_count.false) is }
 
 pub returns : goal.returns
 returns c =
     let bs = c.args.bytes.now in
-    let well = lawful_well bs (λ i. omega (arith, c.type_inv.bytes i)) c.requires in
-    let at = c.locate-layout.ensures.answer in
-    let count = c.word_at.ensures.answer ∙ ap (λ (l : Layout). word_at bs l.nodes) at in
-    let there = node_there bs (λ i. omega (arith, c.type_inv.bytes i)) well c.args.node (omega arith) in
-    record { answer = c.handed.ensures.answer ∙ ap (value_at bs c.locate-layout.result) c.shape_at.ensures.answer ∙ ap (λ l. value_at bs l (shape_at bs l c.args.node)) at ∙ there }
+    let count : c.node_count.result ≡ node_count bs (layout_of bs) = cc in
+    let is : Some c.in_ok-shape.shape ≡ shape_at bs (layout_of bs) c.args.node = cc (c.in_ok-shape.was) in
+    let there = node_shaped bs (λ i. omega (arith, c.type_inv.bytes i)) c.requires.lawful c.args.node (Some c.in_ok-shape.shape) (rw count at c.if-node-node_count.false) is in
+    record { answer = cc }
