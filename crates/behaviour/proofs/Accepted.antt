@@ -9,7 +9,7 @@ use Rattle.model_file.specs.declared.layout.Layout.{Layout}
 use Rattle.model_file.specs.Fields.{variable_count, size_of, process_count, first_of, number_of, body_of, start_of, value_of, node_count, argument_count, argument_of}
 use Rattle.model_file.specs.Layouts.{layout_of}
 use Rattle.model_file.specs.Limits.{Run}
-use Rattle.model_rules.specs.declared.shape.Shape.{Shape}
+use Rattle.model_rules.specs.Shapes.{Shape}
 use Rattle.model_rules.specs.declared.shape.Shape.TheVariants as shape
 use Rattle.model_rules.specs.Shapes.{shape_at, children_of}
 use Rattle.model_rules.specs.Sound as rules

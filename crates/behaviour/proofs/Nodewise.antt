@@ -7,7 +7,7 @@ use Rattle.linear.specs.Equations.{Guarded}
 use Rattle.model_file.specs.declared.layout.Layout.{Layout}
 use Rattle.model_file.specs.Fields.{node_count, process_count, body_of}
 use Rattle.model_file.specs.Layouts.{layout_of}
-use Rattle.model_rules.specs.declared.shape.Shape.{Shape}
+use Rattle.model_rules.specs.Shapes.{Shape}
 use Rattle.model_rules.specs.declared.shape.Shape.TheVariants as shape
 use Rattle.model_rules.specs.Sound as rules
 use Rattle.model_rules.specs.Sound.{Place, body, child, IsNode, LeadsTo}

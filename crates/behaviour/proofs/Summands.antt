@@ -7,7 +7,7 @@ use Rattle.valuation.specs.Doings.{Does}
 use Rattle.linear.specs.Equations.{Guarded, Acts, Leads, Summand}
 use Rattle.model_file.specs.Fields.{node_count}
 use Rattle.model_file.specs.Layouts.{layout_of}
-use Rattle.model_rules.specs.declared.shape.Shape.{Shape}
+use Rattle.model_rules.specs.Shapes.{Shape}
 use Rattle.model_rules.specs.declared.shape.Shape.TheVariants as shape
 use Rattle.model_rules.specs.Sound as rules
 use Rattle.model.specs.Flat.{Flat, flat}

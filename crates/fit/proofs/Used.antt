@@ -5,7 +5,7 @@ use Rattle.std.specs.List.{AllByRecursion, list_any}
 use Rattle.std.proofs.lemmas.Bool.{or_parts, or_from, and_cases, and_right, not-false, not_from_true, cases_Bool, and_left, both_ways, leb-false, lt-leb}
 use Rattle.words.specs.Words.{bytes_of}
 use Rattle.language.specs.Meanings.{Meaning, Lawful}
-use Rattle.model_rules.specs.declared.shape.Shape.{Shape}
+use Rattle.model_rules.specs.Shapes.{Shape}
 use Rattle.model_rules.specs.declared.shape.Shape.TheVariants as shape
 use Rattle.model.specs.Flat.{Flat}
 use Rattle.model.specs.Nodes.{value_in, arguments_from, call_arity, action_arity}

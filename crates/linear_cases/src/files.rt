@@ -1,20 +1,9 @@
-// Linear files made from words, and what reading and writing them back answers.
+// What reading linear files and writing them back answers.
 use linear::Equation;
 use linear_read::read;
 use linear_write::write;
 use std::alloc::{AllocError, Global};
-
-// The file of some words: version 1, the length of the rest, the words.
-pub(crate) fn file(heap: Global, words: &[u16]) -> Result<Vec<u8>, AllocError> {
-    let mut bytes = Vec::new(heap);
-    bytes.push(1)?;
-    let length = (words.len().wrapping_mul(2) & 0xffff_ffff) as u32;
-    bytes.extend_from_slice(&length.to_be_bytes())?;
-    for word in words {
-        bytes.extend_from_slice(&word.to_be_bytes())?;
-    }
-    Ok(bytes)
-}
+use word_files::file_of_words;
 
 // Whether a file is taken, or the number, group and summand of its refusal.
 pub(crate) fn verdict(bytes: &[u8]) -> Result<(), (u16, u16, u16)> {
@@ -27,7 +16,7 @@ pub(crate) fn words_verdict(
     heap: Global,
     words: &[u16],
 ) -> Result<Result<(), (u16, u16, u16)>, AllocError> {
-    let bytes = file(heap, words)?;
+    let bytes = file_of_words(heap, words)?;
     Ok(verdict(bytes.as_slice()))
 }
 
@@ -49,6 +38,6 @@ pub(crate) fn comes_back(bytes: &[u8]) -> bool {
 
 // The same of the file of some words.
 pub(crate) fn words_come_back(heap: Global, words: &[u16]) -> Result<bool, AllocError> {
-    let bytes = file(heap, words)?;
+    let bytes = file_of_words(heap, words)?;
     Ok(comes_back(bytes.as_slice()))
 }

@@ -1,14 +1,17 @@
 -- What a writer has written, one part after another. Assumes nothing.
 use base.Fml.{GName}
-use Rattle.std.proofs.Common.{◌≡◌, ℕ, ◌+◌, ◌<◌, ◌≤◌, List, [], ◌∷◌, ◌++◌, length, get_or, take, drop, sym, refl, ap, ◌∙◌, subst, arith, length-append}
+use Rattle.std.proofs.Common.{◌≡◌, ℕ, ◌+◌, ◌<◌, ◌≤◌, List, [], ◌∷◌, ◌++◌, length, get_or, take, drop, sym, refl, ap, ◌∙◌, subst, arith, length-append, Ok, Err, Result, ltb}
 use Rattle.std.specs.List.{flat_map}
+use Rattle.std.proofs.lemmas.Bool.{cond-false, le-ltb}
 use Rattle.std.proofs.lemmas.List.{take_more, drop_more, take-append-drop, flat_map_more}
 use Rattle.std.proofs.lemmas.Grind.{flat_map-append}
 use Rattle.linear.specs.Reading.{past}
 use Rattle.words.specs.Words.{bytes_of}
 use Rattle.linear.proofs.Shows.{length_bytes}
 use Rattle.linear_write.specs.Laid.{topped}
-use Rattle.linear_write.specs.Written.{Put, after, paid, HasRoom}
+use Rattle.linear_write.specs.declared.fault.WriteFault.{WriteFault}
+use Rattle.linear_write.specs.declared.fault.WriteFault.TheVariants.{Short}
+use Rattle.linear_write.specs.Written.{Put, after, paid, add_answer, add_leaves, HasRoom}
 use Rattle.linear_write.proofs.Laying.{laid_join, length_laid, section_paid, length_topped}
 
 pub made : {a b : List ℕ} {m n : ℕ} (g : GName) → a ≡ b → m ≡ n → ◌≡◌ {A = Put} (record { out = a; at = m; lender = g }) (record { out = b; at = n; lender = g })
@@ -64,6 +67,13 @@ module _ (ws : List ℕ) (k : ℕ) (w : ℕ) (lt : k < length ws) (is : get_or w
 
   pub word_step : {u : Put} → u ≡ after t (w ∷ []) → u ≡ after s (take (k + 1) ws)
   word_step e = step s (take k ws) (w ∷ []) here e ∙ ap (after s) (take_next ws k w lt is)
+
+-- words are added where there is room for them
+pub added : (s : Put) {t : Put} (ws : List ℕ) → HasRoom s ws → t ≡ add_leaves s ws → t ≡ after s ws
+added s ws room e = e ∙ cond-false (ltb (length s.out) (past s.at ws)) s (after s ws) (le-ltb (length s.out) (past s.at ws) room)
+
+pub add_fits : (s : Put) {r : Result (Unit {0}) WriteFault} (ws : List ℕ) → HasRoom s ws → r ≡ add_answer s ws → r ≡ Ok tt
+add_fits s ws room e = e ∙ cond-false (ltb (length s.out) (past s.at ws)) (Err Short) (Ok tt) (le-ltb (length s.out) (past s.at ws) room)
 
 -- a section that was opened and filled, once its count is paid
 pub closed : (s : Put) (ws : List ℕ) (n : ℕ) {t u : Put} {place count : ℕ} → t ≡ after s (0 ∷ ws) → place ≡ s.at → count ≡ n → u ≡ paid t place count → u ≡ after s (n ∷ ws)

@@ -4,11 +4,14 @@
 --     after s ws   with the words ws put next
 --     paid s q n   with the count n put at q
 --     HasRoom s ws the buffer has room for them
+--     add_answer, add_leaves   what adding the words ws answers, and what it leaves: nothing changes without room
 use base.Fml.{GName}
-use Rattle.std.specs.Prelude.{ℕ, ◌≤◌, List, length}
+use Rattle.std.specs.Prelude.{ℕ, ◌≤◌, cond, nat_lt, List, length, Ok, Err, Result}
 use Rattle.words.specs.Put.{put_word}
 use Rattle.linear.specs.Reading.{past}
 use Rattle.linear_write.specs.Laid.{laid}
+use Rattle.linear_write.specs.declared.fault.WriteFault.{WriteFault}
+use Rattle.linear_write.specs.declared.fault.WriteFault.TheVariants.{Short}
 use Rattle.linear_write.specs.declared.writer.Writer.{Writer}
 
 pub record Put : Type 0 where
@@ -27,3 +30,9 @@ paid s q n = record { out = put_word s.out q n; at = s.at; lender = s.lender }
 
 abbrev pub HasRoom : Put → List ℕ → Type 0
 HasRoom s ws = past s.at ws ≤ length s.out
+
+abbrev pub add_answer : Put → List ℕ → Result (Unit {0}) WriteFault
+add_answer s ws = cond (nat_lt (length s.out) (past s.at ws)) (Err Short) (Ok tt)
+
+abbrev pub add_leaves : Put → List ℕ → Put
+add_leaves s ws = cond (nat_lt (length s.out) (past s.at ws)) s (after s ws)

@@ -6,7 +6,7 @@ ghost use Rattle.linear.specs.Layout.{summand_words, file_of};
 use linear::{Doing, FixedList, Summand, Table};
 
 // How many bytes a summand takes.
-fn span<D: Doing>(summand: &Summand<D>) -> usize
+pub(crate) fn span<D: Doing>(summand: &Summand<D>) -> usize
     ensures answer { result ≡ 2 * length (summand_words D.words summand.now) }
     ensures small { result ≤ 200 }
 {

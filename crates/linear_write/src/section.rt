@@ -1,8 +1,10 @@
 // The sections of a file that a writer opens: whoever opens one owes its count, and pays it by closing.
-ghost use Rattle.std.specs.Prelude.{◌≡◌, ◌+◌, ◌<◌, ◌∷◌, []};
+ghost use Rattle.std.specs.Prelude.{◌≡◌, ◌+◌, ◌<◌, ◌≤◌, ◌∷◌, [], length, MatchResult};
 ghost use Rattle.linear.specs.Layout.{summand_words, section_words};
-ghost use Rattle.linear_write.specs.Written.{written, after, paid, HasRoom};
+ghost use Rattle.linear_write.specs.Written.{written, after, paid, add_answer, add_leaves, HasRoom};
 
+use crate::fault::WriteFault;
+use crate::lengths::span;
 use crate::parts::Part;
 use crate::writer::Writer;
 use linear::{FixedList, Summand};
@@ -27,16 +29,25 @@ impl<'a> Writer<'a> {
         Section { at, count: 0 }
     }
 
-    // One summand more.
-    fn add<D: Part>(&mut self, section: &mut Section, summand: &Summand<D>)
-        requires room { HasRoom (written self.old) (summand_words D.words summand.now) }
+    // One summand more; refused, and nothing changed, where there is no room for it.
+    fn add<D: Part>(
+        &mut self,
+        section: &mut Section,
+        summand: &Summand<D>,
+    ) -> Result<(), WriteFault>
+        requires within { self.old.at ≤ length self.old.out.now }
         requires few { section.old.count < 65535 }
-        ensures leaves { written self.new ≡ after (written self.old) (summand_words D.words summand.now) }
+        ensures answer { result ≡ add_answer (written self.old) (summand_words D.words summand.now) }
+        ensures leaves { written self.new ≡ add_leaves (written self.old) (summand_words D.words summand.now) }
         ensures place { section.new.at ≡ section.old.at }
-        ensures counts { section.new.count ≡ section.old.count + 1 }
+        ensures counts { MatchResult result (λ _. section.new.count ≡ section.old.count + 1) (λ _. section.new.count ≡ section.old.count) }
     {
+        if self.out.len() - self.at < span(summand) {
+            return Err(WriteFault::Short);
+        }
         self.put_summand(summand);
         section.count += 1;
+        Ok(())
     }
 
     // Pays the count of the section.
@@ -54,7 +65,8 @@ impl<'a> Writer<'a> {
     {
         let mut section = self.open();
         for summand in summands.as_slice() {
-            self.add(&mut section, summand);
+            // there is room for all of them
+            let _ = self.add(&mut section, summand);
         }
         self.close(section);
     }

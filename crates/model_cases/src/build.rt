@@ -3,6 +3,7 @@ use model::{Model, accept, open};
 use model_file::FaultCode;
 use std::alloc::{AllocError, Global};
 use std::iter;
+use word_files::file_of_words;
 
 // What becomes of a file: it is accepted, or its fault has this number, section and record.
 pub(crate) type Verdict = Result<(), (u16, u16, u16)>;
@@ -69,18 +70,8 @@ pub(crate) fn verdict(bytes: &[u8]) -> Verdict {
     })
 }
 
-// The file of these words, of which there are less than 32,768.
-pub(crate) fn file(heap: Global, words: &[u16]) -> Result<Vec<u8>, AllocError> {
-    let length = words.len() % 32768 * 2;
-    let mut bytes = [1, 0, 0, (length / 256) as u8, (length % 256) as u8].to_vec(heap)?;
-    for word in words {
-        bytes.extend_from_slice(&word.to_be_bytes())?;
-    }
-    Ok(bytes)
-}
-
 pub(crate) fn of_words(heap: Global, words: &[u16]) -> Result<Verdict, AllocError> {
-    let bytes = file(heap, words)?;
+    let bytes = file_of_words(heap, words)?;
     Ok(verdict(&bytes))
 }
 

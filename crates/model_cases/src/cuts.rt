@@ -1,6 +1,7 @@
 // Headers, and files that are cut or too long.
 use super::build::*;
 use std::test::Fail;
+use word_files::file_of_words;
 
 #[test]
 fn headers(rt: HostRuntime) -> Result<(), Fail> {
@@ -30,7 +31,7 @@ fn odd_bytes(rt: HostRuntime) -> Result<(), Fail> {
         "half a size"
     );
     let words = queue(rt.alloc())?;
-    let mut bytes = file(rt.alloc(), &words)?;
+    let mut bytes = file_of_words(rt.alloc(), &words)?;
     bytes.push(0)?;
     assert!(rt; bytes.len() == 68);
     bytes[4] = 63;

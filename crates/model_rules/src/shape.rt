@@ -41,22 +41,30 @@ pub enum Shape<A = u16> {
 fn decode(kind: u16, a: u16, b: u16, c: u16, d: u16, e: u16) -> Option<Shape>
     ensures answer { result ≡ shape_of kind a b c d e }
 {
-    let shape = match (kind, a, b, c, d, e) {
-        (1, process, arguments, 0, 0, 0) => Shape::Call { process, arguments },
-        (2, expression, child, 0, 0, 0) => Shape::Condition { expression, child },
-        (3, left, right, 0, 0, 0) => Shape::Choice { left, right },
-        (4, variable, child, 0, 0, 0) => Shape::Sum { variable, child },
-        (5, action, arguments, variable, weight, child) => Shape::Action {
-            action,
-            arguments,
-            variable,
-            weight,
-            child,
-        },
-        (6, rate, child, 0, 0, 0) => Shape::Delay { rate, child },
-        _ => return None,
-    };
-    Some(shape)
+    match kind {
+        1 if c == 0 && d == 0 && e == 0 => Some(Shape::Call {
+            process: a,
+            arguments: b,
+        }),
+        2 if c == 0 && d == 0 && e == 0 => Some(Shape::Condition {
+            expression: a,
+            child: b,
+        }),
+        3 if c == 0 && d == 0 && e == 0 => Some(Shape::Choice { left: a, right: b }),
+        4 if c == 0 && d == 0 && e == 0 => Some(Shape::Sum {
+            variable: a,
+            child: b,
+        }),
+        5 => Some(Shape::Action {
+            action: a,
+            arguments: b,
+            variable: c,
+            weight: d,
+            child: e,
+        }),
+        6 if c == 0 && d == 0 && e == 0 => Some(Shape::Delay { rate: a, child: b }),
+        _ => None,
+    }
 }
 
 // The node whose record is the one of this number, whether or not the file has so many.

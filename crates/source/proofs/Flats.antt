@@ -13,7 +13,7 @@ use Rattle.model_file.specs.Fields.{node_count}
 use Rattle.model_file.specs.Layouts.{layout_of}
 use Rattle.model_file.specs.Sections.{start_fault, sections_fault, sectioned}
 use Rattle.model_file.proofs.Kept.{and_then_ok, unless_ok, when_ok}
-use Rattle.model_rules.specs.declared.shape.Shape.{Shape}
+use Rattle.model_rules.specs.Shapes.{Shape}
 use Rattle.model_rules.specs.declared.shape.Shape.TheVariants.{Call, Condition, Choice, Sum, Action, Delay}
 use Rattle.model_rules.specs.Rules.{ruled}
 use Rattle.model_rules.specs.Sound.{Soundly, Names}

@@ -5,7 +5,7 @@ use Rattle.std.proofs.lemmas.Bool.{cases_Bool}
 use Rattle.model_file.specs.declared.layout.Layout.{Layout}
 use Rattle.model_file.specs.Fields.{process_count, body_of, node_count}
 use Rattle.model_file.specs.Layouts.{layout_of}
-use Rattle.model_rules.specs.declared.shape.Shape.{Shape}
+use Rattle.model_rules.specs.Shapes.{Shape}
 use Rattle.model_rules.specs.declared.shape.Shape.TheVariants as shape
 use Rattle.model_rules.specs.Shapes.{shape_at}
 use Rattle.model_rules.specs.Tallies.{one, total, movers, is_call, resting}

@@ -10,7 +10,7 @@ use Rattle.std.specs.Prelude.{ℕ, suc, ◌*◌, ◌/◌, ◌<◌, Bool, false, 
 use Rattle.std.specs.List.{range_with_len}
 use Rattle.words.specs.Words.{word_at}
 use Rattle.language.specs.Meanings.{Meaning}
-use Rattle.model_rules.specs.declared.shape.Shape.{Shape}
+use Rattle.model_rules.specs.Shapes.{Shape}
 use Rattle.model_rules.specs.declared.shape.Shape.TheVariants.{Call, Condition, Choice, Sum, Action, Delay}
 use Rattle.model.specs.Nodes.{NodeValue, call, condition, choice, sum, action, delay}
 use Rattle.source.specs.Free.{named_in}
