@@ -2,6 +2,7 @@
 use base.Fml.{GName}
 use Rattle.std.proofs.Common.{◌≡◌, ℕ, ◌+◌, ◌<◌, ◌≤◌, List, [], ◌∷◌, ◌++◌, length, get_or, take, drop, sym, refl, ap, ◌∙◌, subst, arith, length-append, Ok, Err, Result, ltb}
 use Rattle.std.specs.List.{flat_map}
+use Rattle.std.specs.Prelude.{MatchResult}
 use Rattle.std.proofs.lemmas.Bool.{cond-false, le-ltb}
 use Rattle.std.proofs.lemmas.List.{take_more, drop_more, take-append-drop, flat_map_more}
 use Rattle.std.proofs.lemmas.Grind.{flat_map-append}
@@ -57,6 +58,10 @@ module _ {X : Type 0} (xs : List X) (k : ℕ) (x : X) (lt : k < length xs) (is :
     pub row_step : {u : Put} → u ≡ after t (f x) → u ≡ after s (flat_map f (take (k + 1) xs))
     row_step e = step s (flat_map f (take k xs)) (f x) here e ∙ ap (after s) (flat_map_more f [] (take k xs) x ∙ ap (flat_map f) take_next)
 
+-- where a section was opened and filled so far, there is room for one record more
+pub fits : {X : Type 0} (xs : List X) (f : X → List ℕ) (s : Put) {o t : Put} (k : ℕ) (x : X) → k < length xs → get_or xs k x ≡ x → HasRoom s (0 ∷ flat_map f xs) → o ≡ after s (0 ∷ []) → t ≡ after o (flat_map f (take k xs)) → HasRoom t (f x)
+fits xs f s {o} {t} k x lt is room opened here = row_room xs k x lt is f o t here (room_then s (0 ∷ []) (flat_map f xs) room opened)
+
 module _ (ws : List ℕ) (k : ℕ) (w : ℕ) (lt : k < length ws) (is : get_or ws k w ≡ w) (s t : Put) (here : t ≡ after s (take k ws)) where
   -- one word more
   pub word_room : HasRoom s ws → HasRoom t (w ∷ [])
@@ -74,6 +79,10 @@ added s ws room e = e ∙ cond-false (ltb (length s.out) (past s.at ws)) s (afte
 
 pub add_fits : (s : Put) {r : Result (Unit {0}) WriteFault} (ws : List ℕ) → HasRoom s ws → r ≡ add_answer s ws → r ≡ Ok tt
 add_fits s ws room e = e ∙ cond-false (ltb (length s.out) (past s.at ws)) (Err Short) (Ok tt) (le-ltb (length s.out) (past s.at ws) room)
+
+-- what is added is counted
+pub counted_one : {r : Result (Unit {0}) WriteFault} {m : ℕ} (n : ℕ) → r ≡ Ok tt → MatchResult r (λ _. m ≡ n + 1) (λ _. m ≡ n) → m ≡ n + 1
+counted_one {r} {m} n all c = subst (λ (q : Result (Unit {0}) WriteFault). MatchResult q (λ _. m ≡ n + 1) (λ _. m ≡ n)) all c
 
 -- a section that was opened and filled, once its count is paid
 pub closed : (s : Put) (ws : List ℕ) (n : ℕ) {t u : Put} {place count : ℕ} → t ≡ after s (0 ∷ ws) → place ≡ s.at → count ≡ n → u ≡ paid t place count → u ≡ after s (n ∷ ws)

@@ -1,13 +1,13 @@
-use Rattle.std.proofs.Common.{◌≡◌, [], ◌∷◌, length, get_or, sym, ap, ◌∙◌, arith}
+use Rattle.std.proofs.Common.{◌≡◌, ◌+◌, [], ◌∷◌, length, get_or, sym, ap, ◌∙◌, Ok, arith}
 use Rattle.std.specs.List.{flat_map}
 use Rattle.std.proofs.lemmas.List.{take_all}
 use Rattle.linear.specs.Layout.{summand_words}
 use Rattle.linear_write.specs.Written.{written, after, HasRoom}
-use Rattle.linear_write.proofs.Putting.{step, room_then, row_room, row_step, closed}
+use Rattle.linear_write.proofs.Putting.{step, row_step, fits, added, add_fits, counted_one, closed}
 use Rattle.linear_write.proofs.writer.Writer.put_section.Goals as goal
 
-pub add-requires-clause-room : goal.add-requires-clause-room
-add-requires-clause-room g c =
+pub add-requires-clause-within : goal.add-requires-clause-within
+add-requires-clause-within g c =
     let xs = c.args.summands.now in
     let k = c.loop-summand.summand-index in
     let x = c.summand-item.result in
@@ -15,9 +15,8 @@ add-requires-clause-room g c =
     let items = c.as_slice-summand-items.ensures.answer in
     let long = ap length items in
     let is : get_or xs k x ≡ x = sym (c.summand-item.is ∙ ap (λ ys. get_or ys k x) items) in
-    let opened = written c.open-section.new.self in
-    let room : HasRoom opened (flat_map f xs) = room_then (written c.args.self.now) (0 ∷ []) (flat_map f xs) c.requires.room c.open-section.ensures.leaves in
-    row_room xs k x (omega arith) is f opened (written c.loop-summand.self) c.loop-summand.invariant.0 room
+    let room : HasRoom (written c.loop-summand.self) (f x) = fits xs f (written c.args.self.now) k x (omega arith) is c.requires.room c.open-section.ensures.leaves c.loop-summand.invariant.0 in
+    omega (arith, room)
 
 pub loop-summand-preserved : goal.loop-summand-preserved
 loop-summand-preserved g c =
@@ -28,9 +27,11 @@ loop-summand-preserved g c =
     let items = c.as_slice-summand-items.ensures.answer in
     let long = ap length items in
     let is : get_or xs k x ≡ x = sym (c.summand-item.is ∙ ap (λ ys. get_or ys k x) items) in
-    let inv = c.loop-summand.invariant in (
-      row_step xs k x (omega arith) is f (written c.open-section.new.self) (written c.loop-summand.self) inv.0 c.add.ensures.leaves,
-      omega arith,
+    let inv = c.loop-summand.invariant in
+    let room : HasRoom (written c.loop-summand.self) (f x) = fits xs f (written c.args.self.now) k x (omega arith) is c.requires.room c.open-section.ensures.leaves inv.0 in
+    let all : c.add.result ≡ Ok tt = add_fits (written c.loop-summand.self) (f x) room c.add.ensures.answer in (
+      row_step xs k x (omega arith) is f (written c.open-section.new.self) (written c.loop-summand.self) inv.0 (added (written c.loop-summand.self) (f x) room c.add.ensures.leaves),
+      counted_one c.loop-summand.section.count all c.add.ensures.counts ∙ ap (λ n. n + 1) inv.1,
       c.add.ensures.place ∙ inv.2,
     )
 
