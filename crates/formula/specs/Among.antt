@@ -1,8 +1,10 @@
 -- A cell's value and names by those of its operands, among the first n cells. Assumes nothing.
-use Rattle.std.specs.Prelude.{◌≡◌, ℕ, zero, suc, ◌<◌, ◌≤◌, Bool, true, false, cond, ◌&&◌, List, ◌==◌, nat_lt, refl}
-use Rattle.std.proofs.Common.{sym, ◌∙◌, ⊎_elim, arith}
+use Rattle.std.specs.Prelude.{◌≡◌, ℕ, zero, suc, ◌<◌, ◌≤◌, Bool, true, false, cond, ◌&&◌, List, take, ◌==◌, nat_lt, refl}
+use Rattle.std.proofs.Common.{sym, ap, ◌∙◌, ⊎_elim, arith}
+use Rattle.std.proofs.Math.Path.{fun_ext}
+use Rattle.std.proofs.lemmas.List.{get_or-take}
 use Rattle.std.proofs.lemmas.Bool.{and_parts, cases_eq, cond-true, cond-false, eq-eqb, ne_eqb, ltb-true}
-use Rattle.language.proofs.Rows.{every_at}
+use Rattle.language.proofs.Rows.{every_at, every_same}
 use Rattle.formula.specs.Cells.{lawful_among, ruled, cell_at, step_of, reads_of, value_among, names_among}
 use Rattle.formula.specs.declared.cell.Cell.{Cell}
 use Rattle.formula.specs.declared.cell.Cell.TheVariants.{Constant, Variable, Binary, Choose}
@@ -27,6 +29,14 @@ module _ {X : Type 0} (f : ℕ → ℕ → X) (F : ℕ → (ℕ → X) → X) (m
   unfilled z none zero e le = none e
   unfilled z none (suc n) e le =
       more n e ∙ cond-false (e == n) (F n (f n)) (f n e) (ne_eqb e n (λ same. omega arith)) ∙ unfilled z none n e (omega arith)
+
+  -- two tables that are filled alike are alike
+  filled_alike : (g : ℕ → ℕ → X) (G : ℕ → (ℕ → X) → X) → ((n e : ℕ) → g (suc n) e ≡ cond (e == n) (G n (g n)) (g n e)) → f 0 ≡ g 0 → (m : ℕ) → ((k : ℕ) → k < m → F k ≡ G k) → (n : ℕ) → n ≤ m → f n ≡ g n
+  filled_alike g G more' none m alike zero le = none
+  filled_alike g G more' none m alike (suc n) le =
+      let before : f n ≡ g n = filled_alike g G more' none m alike n (omega arith) in
+      let here : F n ≡ G n = alike n (omega arith) in
+      fun_ext (λ e. let p = more n e in let q = more' n e in cc)
 
 -- two functions agree on a cell's operands
 abbrev SameAt : {X : Type 0} → Cell → (ℕ → X) → (ℕ → X) → Type 0
@@ -75,3 +85,20 @@ value_beyond cs v = unfilled (value_among cs v) (λ k. step_of (cell_at cs k) v)
 
 pub names_beyond : (cs : List Cell) (x : ℕ) (n e : ℕ) → n ≤ e → names_among cs x n e ≡ false
 names_beyond cs x = unfilled (names_among cs x) (λ k. reads_of (cell_at cs k) x) (λ _ _. refl) false (λ _. refl)
+
+-- cells past the first n change nothing of those before them
+cell_front : (cs : List Cell) (m k : ℕ) → k < m → cell_at (take m cs) k ≡ cell_at cs k
+cell_front cs m k lt = get_or-take m cs k (Constant 0) lt
+
+pub lawful_front : (cs : List Cell) (n : ℕ) → lawful_among (take n cs) n ≡ lawful_among cs n
+lawful_front cs n = every_same _ _ n (λ k lt. ap (ruled k) (cell_front cs n k lt))
+
+pub value_front : (cs : List Cell) (n : ℕ) (v : List ℕ) → value_among (take n cs) v n ≡ value_among cs v n
+value_front cs n v =
+    filled_alike (value_among (take n cs) v) (λ k. step_of (cell_at (take n cs) k) v) (λ _ _. refl) (value_among cs v) (λ k. step_of (cell_at cs k) v) (λ _ _. refl) refl n
+    (λ k lt. ap (λ c. step_of c v) (cell_front cs n k lt)) n (omega arith)
+
+pub names_front : (cs : List Cell) (n x : ℕ) → names_among (take n cs) x n ≡ names_among cs x n
+names_front cs n x =
+    filled_alike (names_among (take n cs) x) (λ k. reads_of (cell_at (take n cs) k) x) (λ _ _. refl) (names_among cs x) (λ k. reads_of (cell_at cs k) x) (λ _ _. refl) refl n
+    (λ k lt. ap (λ c. reads_of c x) (cell_front cs n k lt)) n (omega arith)

@@ -29,7 +29,7 @@ every_at p (suc n) e h lt =
     let parts = and_parts (every p n) (p n) h in
     ⊎_elim (λ (same : e ≡ n). rw same parts.1) (λ other. every_at p n e parts.0 (omega arith)) (cases_eq e n)
 
-every_same : (p q : ℕ → Bool) (n : ℕ) → ((k : ℕ) → k < n → p k ≡ q k) → every p n ≡ every q n
+pub every_same : (p q : ℕ → Bool) (n : ℕ) → ((k : ℕ) → k < n → p k ≡ q k) → every p n ≡ every q n
 every_same p q zero same = refl
 every_same p q (suc n) same =
     let before = every_same p q n (λ k lt. same k (omega arith)) in
