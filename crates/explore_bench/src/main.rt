@@ -8,9 +8,7 @@ use explore::explore;
 use pools::Pools;
 
 fn explore_pools(rt: &HostRuntime, fast: u16, slow: u16) -> anyhow::Result<()> {
-    let Some(system) = Pools::new(fast, slow) else {
-        return Err(anyhow!("a pool has 1 to 4000 states"));
-    };
+    let system = Pools::new(fast, slow).ok_or_else(|| anyhow!("a pool has 1 to 4000 states"))?;
     let states = usize::from(fast) * usize::from(slow);
     let mut rows = vec![in rt.alloc(); 0u16; states * 2]?;
     match explore(&system, &mut rows, rt.alloc()) {
