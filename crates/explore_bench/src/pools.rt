@@ -54,7 +54,8 @@ fn fewer(busy: u16) -> u16
     busy.saturating_sub(1)
 }
 
-// Refuses a buffer of another width.
+// Refuses a buffer of another width. The failover example has such a test too; to share these lines `system` would have to
+// offer them to every caller.
 fn fit(target: &[u16]) -> Result<(), Refusal>
     ensures { result ≡ cond (length target.now == 2) (Ok tt) (Err Refusal.WrongBuffer) }
 {

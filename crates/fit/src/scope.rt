@@ -55,6 +55,7 @@ fn hand_down(model: &Model, variable: u16, node: u16, here: bool, scope: &mut No
     }
 }
 
+// `source` has such a loop over all processes; the two differ in what they add, and a shared one would have to be public.
 fn body_nodes(model: &Model, variable: u16) -> NodeSet
     ensures answer { (k : ℕ) → k < 256 → has result k ≡ starts (flat model.now.bytes.now) variable k }
 {

@@ -46,6 +46,8 @@ fn body_nodes(model: &Model) -> NodeSet
     bodies
 }
 
+// One loop over the processes and this one over the nodes: a generic one would take what is added as a closure on the set,
+// and be no shorter.
 fn moved_nodes(model: &Model) -> NodeSet
     ensures answer { (n : ℕ) → n < 256 → has result n ≡ moved model.now.bytes.now (layout_of model.now.bytes.now) n }
 {

@@ -8,7 +8,7 @@ pub struct Action {
 }
 
 impl Action {
-    // None from 64 up.
+    // None from 64 up. By an `if`: `then_some` would make the action before the test that its law needs.
     pub fn new(number: u16) -> Option<Action>
         ensures answer { MatchOption result (64 ≤ number) (λ a. a.number ≡ number) }
     {

@@ -40,7 +40,8 @@ fn mode_of(state: &[u16]) -> Result<Mode, Refusal>
     }
 }
 
-// Refuses a buffer of another width.
+// Refuses a buffer of another width. `explore_bench` has such a test too; to share these lines `system` would have to offer
+// them to every caller.
 fn fit(target: &[u16]) -> Result<(), Refusal>
     ensures { result ≡ cond (length target.now == 2) (Ok tt) (Err Refusal.WrongBuffer) }
 {

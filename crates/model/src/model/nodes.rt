@@ -19,7 +19,8 @@ fn arguments<'a>(file: &ModelFile<'a>, first: u16, number: u16) -> &'a [u8]
     rest.get(..2 * usize::from(number)).unwrap_or(rest)
 }
 
-// A node with its arguments in place of the first's number.
+// A node with its arguments in place of the first's number. Each kind is named: two of them count their arguments, each in
+// its own way, and the others only change their type.
 fn handed<'a>(file: &ModelFile<'a>, shape: Shape) -> Node<'a>
     ensures answer { Some (node_value result) ≡ value_at file.now.bytes.now file.now.layout (Some shape) }
 {
