@@ -17,6 +17,7 @@ pub fn total_weight<L: Language>(
     ensures answer { result ≡ total_weight (L.Language.meaning language.now) sizes.now variable weight (listed valuation.now) }
     ensures small { result ≤ 65535 * slice_index sizes.now variable }
 {
+    // A `for`: by `map` and `sum`, that the sum fits was not proved.
     let mut sum = 0;
     for value in 0..variable_value(sizes, variable) {
         let set = valuation.with(variable, value);
