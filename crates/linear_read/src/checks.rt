@@ -6,22 +6,18 @@ ghost use Rattle.linear.specs.Laws.{small_sums};
 ghost use Rattle.linear.specs.Reading.{named_in, products_in};
 
 use crate::parts::Part;
-use crate::rules::{is_counter, small_sums};
+use crate::rules::{Names, small_sums};
 use linear::{FixedList, Group, HEAD, LinearFault, Place, Summand, Table, WordList};
 
 // The first summand that names something that is none, or chooses a variable twice.
-fn misnamed<D: Part>(
-    summands: &FixedList<Summand<D>, 256>,
-    variables: usize,
-    counters: u16,
-) -> Option<usize>
-    ensures answer { result ≡ position_from (λ s. not (D.named variables counters s)) 0 summands.now }
+fn misnamed<D: Part>(summands: &FixedList<Summand<D>, 256>, names: Names) -> Option<usize>
+    ensures answer { result ≡ position_from (λ s. not (D.named names.variables names.counters s)) 0 summands.now }
     ensures small { IfSome result (λ k. k < 256) }
 {
     summands
         .as_slice()
         .iter()
-        .position(|summand| !D::is_named(summand, variables, counters))
+        .position(|summand| !D::is_named(summand, names))
 }
 
 // The first summand whose sum variables have too many values.
@@ -49,14 +45,17 @@ fn place_of(group: Group, index: usize) -> Place
 pub(crate) fn check_names(table: &Table) -> Result<(), LinearFault>
     ensures answer { result ≡ named_in table.now }
 {
-    if !is_counter(table.first.counter, table.counters) {
+    let names = Names {
+        variables: table.sizes.len(),
+        counters: table.counters,
+    };
+    if !names.has_counter(table.first.counter) {
         return Err(LinearFault::Misnamed(HEAD));
     }
-    let variables = table.sizes.len();
-    if let Some(k) = misnamed(&table.actions, variables, table.counters) {
+    if let Some(k) = misnamed(&table.actions, names) {
         return Err(LinearFault::Misnamed(place_of(Group::Actions, k)));
     }
-    if let Some(k) = misnamed(&table.delays, variables, table.counters) {
+    if let Some(k) = misnamed(&table.delays, names) {
         return Err(LinearFault::Misnamed(place_of(Group::Delays, k)));
     }
     Ok(())

@@ -10,7 +10,7 @@ ghost use Rattle.linear_read.specs.Spots.{to};
 ghost use Rattle.words.specs.Words.{word_at};
 
 use crate::reader::Reader;
-use crate::rules::{named_act, named_guard, named_target};
+use crate::rules::Names;
 use arrayvec::ArrayVec;
 use linear::{Act, Doing, Entry, EntryList, Guard, LinearFault, Place, Summand, Target};
 use words::word_at;
@@ -25,8 +25,8 @@ pub(crate) trait Part: Doing {
         ensures answer { result ≡ part_in reader.old.bytes reader.old.place reader.old.at }
         ensures moves { IfOk result (λ d. reader.new ≡ to reader.old (past reader.old.at (Self.words d))) };
 
-    fn is_named(summand: &Summand<Self>, variables: usize, counters: u16) -> bool
-        ensures answer { result ≡ named variables counters summand.now };
+    fn is_named(summand: &Summand<Self>, names: Names) -> bool
+        ensures answer { result ≡ named names.variables names.counters summand.now };
 }
 
 // An action, its arguments, its variable and its weight.
@@ -48,10 +48,10 @@ impl Part for Act {
         })
     }
 
-    fn is_named(summand: &Summand<Act>, variables: usize, counters: u16) -> bool {
-        named_guard(&summand.when, variables, counters)
-            && named_act(&summand.does, &summand.when.sums, variables)
-            && named_target(&summand.leads, variables, counters)
+    fn is_named(summand: &Summand<Act>, names: Names) -> bool {
+        names.has_guard(&summand.when)
+            && names.has_act(&summand.does, &summand.when.sums)
+            && names.has_target(&summand.leads)
     }
 }
 
@@ -65,9 +65,8 @@ impl Part for u16 {
         reader.word()
     }
 
-    fn is_named(summand: &Summand<u16>, variables: usize, counters: u16) -> bool {
-        named_guard(&summand.when, variables, counters)
-            && named_target(&summand.leads, variables, counters)
+    fn is_named(summand: &Summand<u16>, names: Names) -> bool {
+        names.has_guard(&summand.when) && names.has_target(&summand.leads)
     }
 }
 

@@ -8,13 +8,6 @@ const LAST_ACTION: u16 = 63;
 
 const MOST_VALUES: u32 = 65536;
 
-// Whether this is a program counter.
-pub(crate) fn is_counter(counter: u16, counters: u16) -> bool
-    ensures answer { result ≡ within 1 counters counter }
-{
-    (1..=counters).contains(&counter)
-}
-
 fn all_below(words: &[u16], limit: usize) -> bool
     ensures answer { result ≡ all (λ x. nat_lt x limit) words.now }
 {
@@ -36,26 +29,41 @@ fn all_distinct(words: &[u16]) -> bool
     }
 }
 
-pub(crate) fn named_guard(guard: &Guard, variables: usize, counters: u16) -> bool
-    ensures answer { result ≡ named_guard variables counters guard.now }
-{
-    is_counter(guard.counter, counters)
-        && all_below(guard.sums.as_slice(), variables)
-        && all_distinct(guard.sums.as_slice())
+// What a summand may name: variables below this many, and program counters from 1 to this.
+#[derive(Clone, Copy)]
+pub(crate) struct Names {
+    pub(crate) variables: usize,
+    pub(crate) counters: u16,
 }
 
-pub(crate) fn named_act(act: &Act, sums: &WordList, variables: usize) -> bool
-    ensures answer { result ≡ named_acts variables sums.now act.now }
-{
-    act.action <= LAST_ACTION
-        && usize::from(act.variable) < variables
-        && !is_member(act.variable, sums.as_slice())
-}
+impl Names {
+    pub(crate) fn has_counter(self, counter: u16) -> bool
+        ensures answer { result ≡ within 1 self.counters counter }
+    {
+        (1..=self.counters).contains(&counter)
+    }
 
-pub(crate) fn named_target(target: &Target, variables: usize, counters: u16) -> bool
-    ensures answer { result ≡ named_leads variables counters target.now }
-{
-    is_counter(target.counter, counters) && target.entries.len() == variables
+    pub(crate) fn has_guard(self, guard: &Guard) -> bool
+        ensures answer { result ≡ named_guard self.variables self.counters guard.now }
+    {
+        self.has_counter(guard.counter)
+            && all_below(guard.sums.as_slice(), self.variables)
+            && all_distinct(guard.sums.as_slice())
+    }
+
+    pub(crate) fn has_act(self, act: &Act, sums: &WordList) -> bool
+        ensures answer { result ≡ named_acts self.variables sums.now act.now }
+    {
+        act.action <= LAST_ACTION
+            && usize::from(act.variable) < self.variables
+            && !is_member(act.variable, sums.as_slice())
+    }
+
+    pub(crate) fn has_target(self, target: &Target) -> bool
+        ensures answer { result ≡ named_leads self.variables self.counters target.now }
+    {
+        self.has_counter(target.counter) && target.entries.len() == self.variables
+    }
 }
 
 // Whether the sizes of these variables multiply to at most 65,536; one that is none counts as of size 1.

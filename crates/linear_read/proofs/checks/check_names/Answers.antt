@@ -5,12 +5,12 @@ use Rattle.linear_read.proofs.checks.check_names.Goals as goal
 
 pub returns-in-Some : goal.returns-in-Some
 returns-in-Some c =
-    record { answer = ap (λ p. Err (Misnamed p)) c.place_of.ensures.answer ∙ named_first c.args.table.now c.len-variables.result c.len-variables.ensures.answer (sym c.is_counter.ensures.answer ∙ c.if-not-is_counter.false) c.in-Some.k c.in-Some.ensures.answer }
+    record { answer = ap (λ p. Err (Misnamed p)) c.place_of.ensures.answer ∙ named_first c.args.table.now c.len.result c.len.ensures.answer (sym c.has_counter.ensures.answer ∙ c.if-not-has_counter.false) c.in-Some.k c.in-Some.ensures.answer }
 
 pub returns-in-Some-misnamed : goal.returns-in-Some-misnamed
 returns-in-Some-misnamed c =
-    record { answer = ap (λ p. Err (Misnamed p)) c.place_of-in-Some-misnamed.ensures.answer ∙ named_second c.args.table.now c.len-variables.result c.len-variables.ensures.answer (sym c.is_counter.ensures.answer ∙ c.if-not-is_counter.false) c.in_default.ensures.answer c.in-Some-misnamed.k c.in-Some-misnamed.ensures.answer }
+    record { answer = ap (λ p. Err (Misnamed p)) c.place_of-in-Some-misnamed.ensures.answer ∙ named_second c.args.table.now c.len.result c.len.ensures.answer (sym c.has_counter.ensures.answer ∙ c.if-not-has_counter.false) c.in_default.ensures.answer c.in-Some-misnamed.k c.in-Some-misnamed.ensures.answer }
 
 pub returns : goal.returns
 returns c =
-    record { answer = named_all c.args.table.now c.len-variables.result c.len-variables.ensures.answer (sym c.is_counter.ensures.answer ∙ c.if-not-is_counter.false) c.in_default.ensures.answer c.in_default-misnamed.ensures.answer }
+    record { answer = named_all c.args.table.now c.len.result c.len.ensures.answer (sym c.has_counter.ensures.answer ∙ c.if-not-has_counter.false) c.in_default.ensures.answer c.in_default-misnamed.ensures.answer }
