@@ -1,11 +1,13 @@
 // Lists of at most so many items, which lie in the value itself: the project's tables are of fixed size.
-ghost use Rattle.std.specs.Prelude.{◌≡◌, ◌≤◌, [], length, slice_get, slice_index_or};
+ghost use Rattle.std.specs.Prelude.{◌≡◌, ◌≤◌, ◌<◌, ℕ, [], length, slice_get, slice_index_or};
+ghost use Rattle.std.specs.List.{AllZip};
 ghost use Rattle.linear.specs.Shown.{shown};
 
 use arrayvec::ArrayVec;
+use std::alloc::AllocError;
 use std::marker::Model;
 
-#[derive(Clone, Default, Drop)]
+#[derive(Default, Drop)]
 pub struct FixedList<T: Default, const MOST: usize> {
     pub items: ArrayVec<T, MOST>,
 }
@@ -17,6 +19,19 @@ impl<T: Default, const MOST: usize> Model for FixedList<T, MOST> {
     ghost Value = { List T };
 
     ghost view = { λ l. l.items.items };
+}
+
+// By hand, since a derived clone would be told of the vectors inside, and not of the lists.
+impl<T: Default + Clone, const MOST: usize> Clone for FixedList<T, MOST> {
+    ghost is_clone = { λ l copy. AllZip T.is_clone l copy };
+
+    ghost is_infallible = { λ l. (i : ℕ) (d : T) → i < length l → T.is_infallible (slice_index_or l i d) };
+
+    fn clone(&self) -> Result<Self, AllocError> {
+        Ok(FixedList {
+            items: self.items.clone()?,
+        })
+    }
 }
 
 impl<T: Default, const MOST: usize> FixedList<T, MOST> {
