@@ -3,7 +3,7 @@
 --     of_data, of_model     the fault of a file, as a program's
 --     of_memory             want of memory, as a program's fault
 --     Refuses told x        what is to be told is the refusal x, unless memory ran out
-use Rattle.std.specs.Prelude.{◌≡◌, ℕ, List, [], ◌∷◌, ◌++◌, Ok, Err, Result, codes, decimal}
+use Rattle.std.specs.Prelude.{◌≡◌, ℕ, List, [], ◌∷◌, ◌++◌, Err, Result, codes, decimal}
 use Rattle.std.specs.declared.alloc.AllocError.{AllocError}
 use Rattle.language.specs.Faults.{number_of, record_of}
 use Rattle.language.specs.declared.fault.DataFault.{DataFault}

@@ -1,5 +1,5 @@
 // `mapa data`: each expression of a data file, its value with all variables 0, and the variables it names.
-ghost use Rattle.std.specs.Prelude.{◌≡◌, ◌++◌, Ok, IfOk, MatchResult, string_bytes, OnOk};
+ghost use Rattle.std.specs.Prelude.{◌≡◌, ◌++◌, Ok, IfOk, IfErr, string_bytes, OnOk};
 ghost use Rattle.report.specs.Data.{names_below, line_of, lines_below, data_told};
 ghost use Rattle.report.specs.Refusals.{Refuses};
 
@@ -52,7 +52,8 @@ pub(crate) fn data_report<L: FileLanguage + Drop>(
     bytes: &[u8],
     heap: Global,
 ) -> Result<String, ReportFault>
-    ensures answer { MatchResult result (λ s. data_told (L.FileLanguage.file bytes.now) ≡ Ok (string_bytes s)) (Refuses (data_told (L.FileLanguage.file bytes.now))) }
+    ensures answer { IfOk result (λ s. data_told (L.FileLanguage.file bytes.now) ≡ Ok (string_bytes s)) }
+    ensures refusal { IfErr result (Refuses (data_told (L.FileLanguage.file bytes.now))) }
 {
     let mut language = L::empty();
     language.fill(bytes)?;

@@ -1,5 +1,5 @@
 // `mapa model`: what a model file has, in a few lines.
-ghost use Rattle.std.specs.Prelude.{◌≡◌, ◌++◌, Ok, IfOk, MatchResult, string_bytes, OnOk};
+ghost use Rattle.std.specs.Prelude.{◌≡◌, ◌++◌, Ok, IfOk, IfErr, string_bytes, OnOk};
 ghost use Rattle.model.specs.Accept.{judged};
 ghost use Rattle.model.specs.Flat.{flat};
 ghost use Rattle.report.specs.Refusals.{Refuses};
@@ -53,7 +53,8 @@ fn summary(model: &Model<'_>, heap: Global) -> Result<String, AllocError>
 
 // What `mapa model` tells of a model file.
 pub(crate) fn model_report(bytes: &[u8], heap: Global) -> Result<String, ReportFault>
-    ensures answer { MatchResult result (λ s. model_told (judged bytes.now) (flat bytes.now) ≡ Ok (string_bytes s)) (Refuses (model_told (judged bytes.now) (flat bytes.now))) }
+    ensures answer { IfOk result (λ s. model_told (judged bytes.now) (flat bytes.now) ≡ Ok (string_bytes s)) }
+    ensures refusal { IfErr result (Refuses (model_told (judged bytes.now) (flat bytes.now))) }
 {
     let mut model = Model::smallest();
     accept(open(bytes), &mut model)?;

@@ -1,5 +1,5 @@
 // What the program `mapa` can be asked.
-ghost use Rattle.std.specs.Prelude.{◌≡◌, Ok, MatchResult, string_bytes};
+ghost use Rattle.std.specs.Prelude.{◌≡◌, Ok, IfOk, IfErr, string_bytes};
 ghost use Rattle.report.specs.Refusals.{Refuses};
 ghost use Rattle.report.specs.Verbs.{verb_told};
 
@@ -26,7 +26,8 @@ pub enum Verb {
 
 // What a verb tells of its input: a text, or the refusal of the input.
 pub fn run(verb: Verb, input: &[u8], heap: Global) -> Result<String, ReportFault>
-    ensures answer { MatchResult result (λ s. verb_told verb input.now ≡ Ok (string_bytes s)) (Refuses (verb_told verb input.now)) }
+    ensures answer { IfOk result (λ s. verb_told verb input.now ≡ Ok (string_bytes s)) }
+    ensures refusal { IfErr result (Refuses (verb_told verb input.now)) }
 {
     match verb {
         Verb::Data(DataLanguage::Formula) => data_report::<Formula>(input, heap),
