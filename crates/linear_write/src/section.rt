@@ -18,7 +18,7 @@ pub(crate) struct Section {
 
 impl<'a> Writer<'a> {
     // Opens a section: a place for its count, which is owed from here on.
-    fn open(&mut self) -> Section
+    pub(crate) fn open(&mut self) -> Section
         requires room { HasRoom (written self.old) (0 ∷ []) }
         ensures place { result.at ≡ self.old.at }
         ensures none { result.count ≡ 0 }
@@ -30,7 +30,7 @@ impl<'a> Writer<'a> {
     }
 
     // One summand more; refused, and nothing changed, where there is no room for it.
-    fn add<D: Part>(
+    pub(crate) fn add<D: Part>(
         &mut self,
         section: &mut Section,
         summand: &Summand<D>,
@@ -51,7 +51,7 @@ impl<'a> Writer<'a> {
     }
 
     // Pays the count of the section.
-    fn close(&mut self, section: Section)
+    pub(crate) fn close(&mut self, section: Section)
         ensures leaves { written self.new ≡ paid (written self.old) section.at section.count }
     {
         let Section { at, count } = section;
