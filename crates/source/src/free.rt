@@ -6,6 +6,7 @@ ghost use Rattle.model.specs.Trees.{tree_of};
 ghost use Rattle.source.specs.Free.{free, FreeAt};
 ghost use Rattle.source.specs.Nodes.{carried_by};
 ghost use Rattle.source.specs.Sets.{has};
+ghost use Rattle.words.specs.Headers.{Iff};
 
 use crate::carried::{Binds, Carried, Names};
 use crate::own::any_child_in;
@@ -17,10 +18,8 @@ use model::Model;
 fn carries<C: Carried>(model: &Model, sought: &C, node: u16, known: &NodeSet) -> bool
     ensures answer { result ≡ carried_by (C.Carried.at_node sought.now) (has known.now) (node_in (flat model.now.bytes.now) node) }
 {
-    match model.node(node) {
-        Some(here) => sought.at(here) | any_child_in(known, here),
-        None => false,
-    }
+    let here = model.node(node);
+    here.is_some_and(|here| sought.at(here) | any_child_in(known, here))
 }
 
 // The nodes that have what is sought, and those above them.
@@ -40,7 +39,7 @@ fn carriers<C: Carried>(model: &Model, sought: &C) -> NodeSet
 // The nodes at which a variable is free.
 pub fn free_nodes<L: Language>(model: &Model, language: &L, variable: u16) -> NodeSet
     ensures answer { (n : ℕ) → has result n ≡ free (L.Language.meaning language.now) (tree_of (flat model.now.bytes.now) n) variable }
-    ensures rules { (n : ℕ) → (has result n ≡ true → FreeAt (L.Language.meaning language.now) (tree_of (flat model.now.bytes.now) n) variable) × (FreeAt (L.Language.meaning language.now) (tree_of (flat model.now.bytes.now) n) variable → has result n ≡ true) }
+    ensures rules { (n : ℕ) → Iff (has result n ≡ true) (FreeAt (L.Language.meaning language.now) (tree_of (flat model.now.bytes.now) n) variable) }
 {
     let named = carriers(model, &Names { language, variable });
     let bound = carriers(model, &Binds { variable });
