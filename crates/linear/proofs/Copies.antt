@@ -1,6 +1,7 @@
--- The clone of a table is equal to it, from what is known of the clone of each of its parts.
---     Same x y      a clone y of what holds no list
---     Each xs ys    a clone of a list of such, item by item
+-- A clone of an equation is equal to it. Of the clone of each of its parts this is known:
+--     Same x y           y is the clone of x, which holds no list
+--     Each xs ys         ys is the clone of a list of such, item by item
+--     GuardCopy g h ..   h is the clone of a record, field by field
 use mathlib.Core.Bool.{Bool-set}
 use Rattle.std.proofs.Common.{◌≡◌, ℕ, true, List, refl, sym, ap, subst}
 use Rattle.std.specs.List.{AllZip}
@@ -86,14 +87,12 @@ TableCopy e f =
 
 pub table_same : (e f : Linear) → TableCopy e f → f ≡ e
 table_same e f copy =
-    let made : List ℕ → ℕ → Vector → List (Summand Acts) → List (Summand ℕ) → Linear =
-    λ ns c v ss rs. record { sizes = ns; counters = c; first = v; actions = ss; delays = rs } in
+    let made : List ℕ → ℕ → Vector → List (Summand Acts) → List (Summand ℕ) → Linear = λ ns c v ss rs. record { sizes = ns; counters = c; first = v; actions = ss; delays = rs } in
     let sizes = each_same e.sizes f.sizes copy.0 in
     let first = vector_same e.first f.first copy.1.1.0 in
     let actions = summands_same ActsCopy acts_same e.actions f.actions copy.1.1.1.0 in
     let delays = summands_same Same same e.delays f.delays copy.1.1.1.1 in
-    let whole : made f.sizes f.counters f.first f.actions f.delays ≡ made e.sizes e.counters e.first e.actions e.delays =
-    rw (sizes, copy.1.0, first, actions, delays) refl in
+    let whole : made f.sizes f.counters f.first f.actions f.delays ≡ made e.sizes e.counters e.first e.actions e.delays = rw (sizes, copy.1.0, first, actions, delays) refl in
     whole
 
 -- two equations of one table are equal, since there is one proof that it is lawful

@@ -21,7 +21,7 @@ impl<T: Default, const MOST: usize> Model for FixedList<T, MOST> {
     ghost view = { λ l. l.items.items };
 }
 
-// By hand, since a derived clone would be told of the vectors inside, and not of the lists.
+// By hand, since a derived clone speaks of the vectors inside, and not of the lists that a clause sees.
 impl<T: Default + Clone, const MOST: usize> Clone for FixedList<T, MOST> {
     ghost is_clone = { λ l copy. AllZip T.is_clone l copy };
 
