@@ -21,8 +21,8 @@ fn words_past_the_rows_stay(rt: HostRuntime) {
 fn one_row_too_few(rt: HostRuntime) {
     let mut rows = [7u16; 5];
     assert_eq!(rt;
-        explore(&Failover {}, &mut rows, rt.alloc()),
-        Err(Refusal::TooManyStates)
+        explore(&Failover {}, &mut rows, rt.alloc()).map_err(Refusal::number),
+        Err(17)
     );
     assert_eq!(rt; rows, [1, 1, 0, 1, 7]);
 }
@@ -31,13 +31,13 @@ fn one_row_too_few(rt: HostRuntime) {
 fn no_row_at_all(rt: HostRuntime) {
     let mut word = [7u16; 1];
     assert_eq!(rt;
-        explore(&Failover {}, &mut word, rt.alloc()),
-        Err(Refusal::TooManyStates)
+        explore(&Failover {}, &mut word, rt.alloc()).map_err(Refusal::number),
+        Err(17)
     );
     assert_eq!(rt; word, [7]);
     let mut nothing = [0u16; 0];
     assert_eq!(rt;
-        explore(&Failover {}, &mut nothing, rt.alloc()),
-        Err(Refusal::TooManyStates)
+        explore(&Failover {}, &mut nothing, rt.alloc()).map_err(Refusal::number),
+        Err(17)
     );
 }

@@ -12,21 +12,29 @@ fn outcome_refusals_in_order(rt: HostRuntime) {
     let mut long = [7u16; 3];
     let mut target = [7u16; 2];
     assert_eq!(rt;
-        system.outcome(&NOWHERE, 9, 9, &mut long),
-        Err(Refusal::WrongBuffer)
+        system
+            .outcome(&NOWHERE, 9, 9, &mut long)
+            .map_err(Refusal::number),
+        Err(13)
     );
     assert_eq!(rt; long, [7, 7, 7]);
     assert_eq!(rt;
-        system.outcome(&NOWHERE, 9, 9, &mut target),
-        Err(Refusal::OutsideSet)
+        system
+            .outcome(&NOWHERE, 9, 9, &mut target)
+            .map_err(Refusal::number),
+        Err(10)
     );
     assert_eq!(rt;
-        system.outcome(&FIRST, 9, 9, &mut target),
-        Err(Refusal::NoMove)
+        system
+            .outcome(&FIRST, 9, 9, &mut target)
+            .map_err(Refusal::number),
+        Err(11)
     );
     assert_eq!(rt;
-        system.outcome(&FIRST, 0, 9, &mut target),
-        Err(Refusal::NoOutcome)
+        system
+            .outcome(&FIRST, 0, 9, &mut target)
+            .map_err(Refusal::number),
+        Err(12)
     );
     assert_eq!(rt; target, [7, 7]);
 }
@@ -47,14 +55,23 @@ fn delay_refusals_in_order(rt: HostRuntime) {
     let mut short = [7u16; 1];
     let mut target = [7u16; 2];
     assert_eq!(rt;
-        system.delay(&NOWHERE, 9, &mut short),
-        Err(Refusal::WrongBuffer)
+        system
+            .delay(&NOWHERE, 9, &mut short)
+            .map_err(Refusal::number),
+        Err(13)
     );
     assert_eq!(rt;
-        system.delay(&NOWHERE, 9, &mut target),
-        Err(Refusal::OutsideSet)
+        system
+            .delay(&NOWHERE, 9, &mut target)
+            .map_err(Refusal::number),
+        Err(10)
     );
-    assert_eq!(rt; system.delay(&FIRST, 9, &mut target), Err(Refusal::NoMove));
+    assert_eq!(rt;
+        system
+            .delay(&FIRST, 9, &mut target)
+            .map_err(Refusal::number),
+        Err(11)
+    );
     assert_eq!(rt; target, [7, 7]);
     assert_eq!(rt; system.delay(&FIRST, 0, &mut target), Ok(Rate(1)));
     assert_eq!(rt; target, [0, 1]);
@@ -64,12 +81,24 @@ fn delay_refusals_in_order(rt: HostRuntime) {
 fn counts_and_the_first_state(rt: HostRuntime) {
     let system = Failover {};
     assert_eq!(rt; system.move_count(&FIRST), Ok(1));
-    assert_eq!(rt; system.move_count(&NOWHERE), Err(Refusal::OutsideSet));
+    assert_eq!(rt;
+        system.move_count(&NOWHERE).map_err(Refusal::number),
+        Err(10)
+    );
     assert_eq!(rt; system.outcome_count(&FIRST, 0), Ok(3));
-    assert_eq!(rt; system.outcome_count(&FIRST, 1), Err(Refusal::NoMove));
-    assert_eq!(rt; system.outcome_count(&NOWHERE, 1), Err(Refusal::OutsideSet));
+    assert_eq!(rt;
+        system.outcome_count(&FIRST, 1).map_err(Refusal::number),
+        Err(11)
+    );
+    assert_eq!(rt;
+        system.outcome_count(&NOWHERE, 1).map_err(Refusal::number),
+        Err(10)
+    );
     assert_eq!(rt; system.delay_count(&FIRST), Ok(1));
-    assert_eq!(rt; system.delay_count(&[1, 1, 1]), Err(Refusal::OutsideSet));
+    assert_eq!(rt;
+        system.delay_count(&[1, 1, 1]).map_err(Refusal::number),
+        Err(10)
+    );
     let mut target = [7u16; 2];
     assert_eq!(rt; system.first(&mut target), Ok(()));
     assert_eq!(rt; target, FIRST);
