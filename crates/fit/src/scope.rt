@@ -13,8 +13,8 @@ use source::{NodeSet, binds};
 fn is_parameter(process: Process, variable: u16) -> bool
     ensures answer { result ≡ parameter process variable }
 {
-    variable >= process.first
-        && u32::from(variable) < u32::from(process.first) + u32::from(process.number)
+    let first = u32::from(process.first);
+    (first..first + u32::from(process.number)).contains(&u32::from(variable))
 }
 
 fn add_children(scope: &mut NodeSet, node: Node<'_>)
@@ -55,7 +55,8 @@ fn hand_down(model: &Model, variable: u16, node: u16, here: bool, scope: &mut No
     }
 }
 
-// `source` has such a loop over all processes; the two differ in what they add, and a shared one would have to be public.
+// `source` has such a loop over all processes. The two differ in what they add: a shared one would be public and take that as
+// a closure, which would have to be callable by a `requires`.
 fn body_nodes(model: &Model, variable: u16) -> NodeSet
     ensures answer { (k : ℕ) → k < 256 → has result k ≡ starts (flat model.now.bytes.now) variable k }
 {

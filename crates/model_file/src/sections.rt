@@ -10,6 +10,7 @@ use crate::file::ModelFile;
 use crate::part::Part;
 use words::{check_header, word_at};
 
+// Two functions for two faults: one that took the fault as a closure would be longer.
 impl Part {
     fn cut(self, index: u16) -> ModelFault
         ensures answer { result ≡ Cut (section_of self) (place_of self index) }

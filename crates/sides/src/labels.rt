@@ -20,6 +20,7 @@ pub fn label<L: Language>(
 {
     let count = arguments.len().min(MOST_ARGUMENTS);
     let mut values = [0u16; MOST_ARGUMENTS];
+    // By place: of what is written through `zip` with `iter_mut` nothing is known.
     for (i, argument) in arguments[..count].iter().enumerate() {
         values[i] = language.value(*argument, valuation.values());
     }

@@ -18,7 +18,7 @@ pub fn counters(model: &Model) -> [Option<Counter>; 256]
 {
     let places = place_nodes(model);
     let mut counters: [Option<Counter>; 256] = [None; 256];
-    // Counted by hand: only the resting places are numbered, and what a `zip` with `iter_mut` leaves is not proved.
+    // Counted by hand: only the resting places are numbered, and of what is written through `zip` with `iter_mut` nothing is known.
     let mut next = 1;
     for (node, counter) in counters.iter_mut().enumerate() {
         if !places.flags[node] {

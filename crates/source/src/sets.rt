@@ -35,6 +35,7 @@ impl NodeSet {
         ensures answer { (n : ℕ) → has result n ≡ (has self.now n && not (has other.now n)) }
     {
         let mut flags = self.flags;
+        // By place: of what is written through `zip` with `iter_mut` nothing is known.
         for (node, flag) in flags.iter_mut().enumerate() {
             *flag &= !other.flags[node];
         }

@@ -21,7 +21,7 @@ pub fn count<N: Nodes, L: Language>(
 {
     let mut cursor = Cursor::new(node, valuation);
     let mut number = 0;
-    // The nodes and the language are asked at each step, so the cursor is no `Iterator`.
+    // No `Iterator`: such a cursor would hold the nodes and the language, with two parameters and two lifetimes more.
     while let Some(found) = cursor.next(nodes, language) {
         if nodes.lives(asked, language, &found) {
             number += 1;

@@ -25,7 +25,7 @@ pub fn seek<N: Nodes, L: Language>(
 {
     let mut left = number;
     let mut cursor = Cursor::new(node, valuation);
-    // The nodes and the language are asked at each step, so the cursor is no `Iterator`.
+    // No `Iterator`: such a cursor would hold the nodes and the language, with two parameters and two lifetimes more.
     while let Some(found) = cursor.next(nodes, language) {
         if nodes.lives(asked, language, &found) {
             if left == 0 {
