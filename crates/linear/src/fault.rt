@@ -12,7 +12,7 @@ pub enum Group {
     Delays = 2,
 }
 
-// A summand of a group; 0 where no summand is meant.
+// A summand of a group, as it is reported: 0 where no summand is meant.
 #[derive(Clone, Copy, PartialEq, Eq, Debug)]
 pub struct Place {
     pub group: Group,

@@ -1,4 +1,4 @@
-// Why a model file is refused. Sections count from 1, records from 0.
+// Why a model file is refused. Sections count from 1, records from 0, as they are reported: 0 where none is meant.
 ghost use Rattle.std.specs.Prelude.{◌≡◌};
 ghost use Rattle.model_file.specs.Faults.{code_of, of_header};
 

@@ -1,4 +1,5 @@
-// What a model has, section by section.
+// What a model has, section by section. A getter of one number answers 0 where there is nothing, as its clause says: by an
+// `Option` it would promise something else.
 #![tactic(auto, using(crate::proofs::Numbered::places))]
 
 ghost use Rattle.std.specs.Prelude.{◌≡◌, ◌+◌, ◌*◌, length, slice_index};
