@@ -3,7 +3,7 @@ ghost use Rattle.std.specs.Prelude.{◌≡◌};
 ghost use Rattle.linear.specs.Layout.{entry_words};
 ghost use Rattle.linear.specs.Reading.{ByWords};
 
-#[derive(Clone, Copy, Default)]
+#[derive(Clone, Copy, Debug, PartialEq, Eq, Default)]
 pub enum Entry {
     // it is 0
     #[default]

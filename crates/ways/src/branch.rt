@@ -2,7 +2,7 @@
 use valuation::Valuation;
 
 // Children by their numbers.
-#[derive(Clone, Copy)]
+#[derive(Clone, Copy, Debug, PartialEq, Eq)]
 pub enum Branch {
     // nothing comes from here
     Dead,
@@ -22,7 +22,7 @@ pub struct Found {
     pub valuation: Valuation,
 }
 
-#[derive(Clone, Copy)]
+#[derive(Clone, Copy, Debug, PartialEq, Eq)]
 pub enum Asked {
     Moves,
     Delays,
