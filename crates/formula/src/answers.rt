@@ -1,5 +1,5 @@
 // The answers of cells to a question, each found once: a shared cell is not worked out again.
-ghost use Rattle.std.specs.Prelude.{◌≡◌, ℕ, ◌<◌, ◌≤◌, true, length};
+ghost use Rattle.std.specs.Prelude.{◌≡◌, ℕ, ◌<◌, ◌≤◌, true, length, replicate, None};
 ghost use Rattle.arrayvec.specs.ArrayVec.{array_vec_len};
 ghost use Rattle.formula.specs.Answers.{Kept, Solves};
 ghost use Rattle.formula.specs.Cells.{cell_at, ruled, step_of, reads_of};
@@ -91,12 +91,7 @@ impl Formula {
     }
 
     // The answer of cell `e`; the memo keeps those found on the way.
-    pub(crate) fn find<X: Copy, Q: Question<X>>(
-        &self,
-        e: u16,
-        question: &Q,
-        memo: &mut [Option<X>],
-    ) -> X
+    fn find<X: Copy, Q: Question<X>>(&self, e: u16, question: &Q, memo: &mut [Option<X>]) -> X
         requires within { e < array_vec_len self.now.cells }
         requires room { array_vec_len self.now.cells ≤ length memo.old }
         requires kept { (f : ℕ → X) → Solves (Q.step question.now) self.now.cells.items f → Kept f memo.old }
@@ -125,5 +120,24 @@ impl Formula {
         };
         memo[at] = Some(found);
         found
+    }
+
+    // The answer of `expression`, or `otherwise` where there is no such cell. The memo, which has no
+    // answer yet, is the caller's: only there is the size of an answer known.
+    pub(crate) fn answer<X: Copy, Q: Question<X>>(
+        &self,
+        expression: u16,
+        question: &Q,
+        memo: &mut [Option<X>],
+        otherwise: X,
+    ) -> X
+        requires blank { memo.old ≡ replicate 256 None }
+        ensures within { expression < array_vec_len self.now.cells → (f : ℕ → X) → Solves (Q.step question.now) self.now.cells.items f → result ≡ f expression }
+        ensures beyond { array_vec_len self.now.cells ≤ expression → result ≡ otherwise }
+    {
+        if usize::from(expression) >= self.cells.len() {
+            return otherwise;
+        }
+        self.find(expression, question, memo)
     }
 }

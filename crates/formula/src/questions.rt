@@ -18,19 +18,11 @@ impl Language for Formula {
     }
 
     fn value(&self, expression: u16, valuation: &[u16]) -> u16 {
-        if usize::from(expression) >= self.cells.len() {
-            return 0;
-        }
-        let mut memo = [None; 256];
-        self.find(expression, &Value { valuation }, &mut memo)
+        self.answer(expression, &Value { valuation }, &mut [None; 256], 0)
     }
 
     fn names(&self, expression: u16, variable: u16) -> bool {
-        if usize::from(expression) >= self.cells.len() {
-            return false;
-        }
-        let mut memo = [None; 256];
-        self.find(expression, &Names { variable }, &mut memo)
+        self.answer(expression, &Names { variable }, &mut [None; 256], false)
     }
 }
 

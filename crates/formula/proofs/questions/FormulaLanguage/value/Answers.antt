@@ -1,18 +1,19 @@
-use Rattle.std.proofs.Common.{length, sym, arith}
+use Rattle.std.proofs.Common.{length, sym, ◌∙◌, ⊎_elim}
+use Rattle.std.proofs.lemmas.Bool.{cases_lt}
 use Rattle.formula.specs.Among.{value_is, value_beyond}
 use Rattle.formula.specs.Cells.{value_among}
-use Rattle.formula.proofs.Keeping.{kept_none}
 use Rattle.formula.proofs.questions.FormulaLanguage.value.Goals as goal
-
-pub returns-then-from-len : goal.returns-then-from-len
-returns-then-from-len c = let cs = c.args.self.now.cells.items in record { answer = sym (value_beyond cs c.args.valuation.now (length cs) c.args.expression (omega arith)) }
-
-pub find-requires-clause-kept : goal.find-requires-clause-kept
-find-requires-clause-kept c = λ f _. kept_none f 256
 
 pub returns : goal.returns
 returns c =
     let f = c.args.self.now in
     let cs = f.cells.items in
     let n = length cs in
-    record { answer = c.find.ensures.answer (value_among cs c.args.valuation.now n) (λ e lt. value_is cs n e f.ruled lt c.args.valuation.now) }
+    let asked = c.args.valuation.now in
+    record {
+      answer =
+          ⊎_elim
+          (λ within. c.answer.ensures.within within (value_among cs asked n) (λ e lt. value_is cs n e f.ruled lt asked))
+          (λ beyond. c.answer.ensures.beyond beyond ∙ sym (value_beyond cs asked n c.args.expression beyond))
+          (cases_lt c.args.expression n);
+    }
