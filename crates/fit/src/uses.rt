@@ -8,14 +8,12 @@ ghost use Rattle.fit.specs.Uses.{uses_beyond, strays};
 use language::Language;
 use model::Node;
 use source::names_any;
-use words::word_at;
 
 fn any_beyond(count: u16, arguments: &[u8]) -> bool
     ensures answer { result ≡ list_any (nat_le count) (words_in arguments.now) }
 {
-    (0..arguments.len() / 2)
-        .map(|i| word_at(arguments, 2 * i))
-        .any(|expression| expression >= count)
+    let (words, _) = arguments.as_chunks::<2>();
+    words.iter().any(|word| u16::from_be_bytes(*word) >= count)
 }
 
 // Whether a node uses an expression from `count` up.

@@ -1,6 +1,7 @@
 pub mod Above
 pub mod Ascends
 pub mod Below
+pub mod Chunks
 pub mod Enumerate
 pub mod Flagged
 pub mod Flats

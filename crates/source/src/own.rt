@@ -8,15 +8,15 @@ ghost use Rattle.source.specs.Sets.{has};
 use crate::set::NodeSet;
 use language::Language;
 use model::Node;
-use words::word_at;
 
 // Whether one of the expressions, which are given as words, names a variable.
 pub fn names_any<L: Language>(language: &L, arguments: &[u8], variable: u16) -> bool
     ensures answer { result ≡ named_in (L.Language.meaning language.now) (words_in arguments.now) variable }
 {
-    (0..arguments.len() / 2)
-        .map(|i| word_at(arguments, 2 * i))
-        .any(|expression| language.names(expression, variable))
+    let (words, _) = arguments.as_chunks::<2>();
+    words
+        .iter()
+        .any(|word| language.names(u16::from_be_bytes(*word), variable))
 }
 
 pub(crate) fn names_here<L: Language>(language: &L, node: Node<'_>, variable: u16) -> bool

@@ -1,0 +1,17 @@
+use Rattle.std.proofs.Common.{rules, tests, ◌≡◌, ℕ, List, Bool, length, ap, ◌∙◌, ◌/◌}
+use Rattle.std.proofs.lemmas.Iterator.{YieldsList-from_slice}
+use Rattle.std.proofs.lemmas.Iterator.Search.{any_from_yields_List}
+use Rattle.std.specs.List.{list_any}
+use Rattle.std.specs.Simd.{first_chunks}
+use Rattle.source.proofs.Chunks.{chunk_word, any_word}
+use Rattle.source.proofs.own.names_any.Goals as goal
+
+pub returns : goal.returns
+returns g c =
+    let names : ℕ → Bool = λ e. (g.L.Language.meaning c.args.language.now).names e c.args.variable in
+    let of_chunk : List ℕ → Bool = λ chunk. names (chunk_word chunk) in
+    let bytes = c.args.arguments.now in
+    let chunks = c.as_chunks.result.0.now in
+    let all : chunks ≡ first_chunks 2 (length bytes / 2) bytes = c.as_chunks.ensures.front in
+    let found : c.any.result ≡ list_any of_chunk chunks = any_from_yields_List of_chunk _ _ _ c.any.ensures.ran (YieldsList-from_slice chunks c.iter.ensures.rest) (λ x b q k. search (rules, tests)) in
+    record { answer = found ∙ ap (list_any of_chunk) all ∙ any_word names bytes }
