@@ -99,9 +99,10 @@ impl<'a> Reader<'a> {
         requires room { self.now.at + 4 * self.now.variables ≤ length self.now.bytes }
         ensures answer { result ≡ entries_from self.now.bytes self.now.at self.now.variables }
     {
+        let (pairs, _) = self.bytes[self.at..self.at + 4 * self.variables].as_chunks::<4>();
         let mut items = ArrayVec::new();
-        for i in 0..self.variables {
-            items.push(entry_at(self.bytes, self.at + 4 * i)?);
+        for pair in pairs {
+            items.push(entry_at(pair, 0)?);
         }
         Some(EntryList { items })
     }

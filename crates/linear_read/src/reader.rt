@@ -87,9 +87,10 @@ impl<'a> Reader<'a> {
         if self.bytes.len() - self.at < 2 * usize::from(count) {
             return Err(LinearFault::Length(self.place));
         }
+        let (words, _) = self.bytes[self.at..self.at + 2 * usize::from(count)].as_chunks::<2>();
         let mut items = ArrayVec::new();
-        for i in 0..count {
-            items.push(word_at(self.bytes, self.at + 2 * usize::from(i)));
+        for word in words {
+            items.push(u16::from_be_bytes(*word));
         }
         self.at += 2 * usize::from(count);
         Ok(WordList { items })
