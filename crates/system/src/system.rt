@@ -41,6 +41,7 @@ pub trait Markov: System {
         ensures answer { result ≡ delay_count_answer (Self.System.meaning self.now) (delays self.now) state.now }
         ensures small { IfOk result (λ n. n ≤ ceiling) };
 
+    // `rules` says two things in one clause: both are of the same answer, and each system proves them together.
     fn delay(&self, state: &[u16], k: u64, target: &mut [u16]) -> Result<Rate, Refusal>
         ensures answer { result ≡ delay_answer (Self.System.meaning self.now) (delays self.now) state.now k target.old }
         ensures leaves { target.new ≡ put result (delay_target (delays self.now) state.now k) target.old }
