@@ -5,7 +5,7 @@ use Rattle.std.proofs.Math.Path.{fun_ext}
 use Rattle.std.proofs.lemmas.List.{get_or-take}
 use Rattle.std.proofs.lemmas.Bool.{and_parts, cases_eq, cond-true, cond-false, eq-eqb, ne_eqb, ltb-true}
 use Rattle.language.proofs.Rows.{every_at, every_same}
-use Rattle.formula.specs.Cells.{lawful_among, ruled, cell_at, step_of, reads_of, value_among, names_among}
+use Rattle.formula.specs.Cells.{lawful_among, ruled, cell_at, step_of, reads_of, value_among, names_among, meaning_among}
 use Rattle.formula.specs.declared.cell.Cell.{Cell}
 use Rattle.formula.specs.declared.cell.Cell.TheVariants.{Constant, Variable, Binary, Choose}
 
@@ -93,12 +93,15 @@ cell_front cs m k lt = get_or-take m cs k (Constant 0) lt
 pub lawful_front : (cs : List Cell) (n : ℕ) → lawful_among (take n cs) n ≡ lawful_among cs n
 lawful_front cs n = every_same _ _ n (λ k lt. ap (ruled k) (cell_front cs n k lt))
 
-pub value_front : (cs : List Cell) (n : ℕ) (v : List ℕ) → value_among (take n cs) v n ≡ value_among cs v n
-value_front cs n v =
+pub meaning_front : (cs : List Cell) (n : ℕ) → meaning_among (take n cs) n ≡ meaning_among cs n
+meaning_front cs n =
+    let value : (v : List ℕ) → value_among (take n cs) v n ≡ value_among cs v n = λ v.
     filled_alike (value_among (take n cs) v) (λ k. step_of (cell_at (take n cs) k) v) (λ _ _. refl) (value_among cs v) (λ k. step_of (cell_at cs k) v) (λ _ _. refl) refl n
-    (λ k lt. ap (λ c. step_of c v) (cell_front cs n k lt)) n (omega arith)
-
-pub names_front : (cs : List Cell) (n x : ℕ) → names_among (take n cs) x n ≡ names_among cs x n
-names_front cs n x =
+    (λ k lt. ap (λ c. step_of c v) (cell_front cs n k lt)) n (omega arith) in
+    let names : (x : ℕ) → names_among (take n cs) x n ≡ names_among cs x n = λ x.
     filled_alike (names_among (take n cs) x) (λ k. reads_of (cell_at (take n cs) k) x) (λ _ _. refl) (names_among cs x) (λ k. reads_of (cell_at cs k) x) (λ _ _. refl) refl n
-    (λ k lt. ap (λ c. reads_of c x) (cell_front cs n k lt)) n (omega arith)
+    (λ k lt. ap (λ c. reads_of c x) (cell_front cs n k lt)) n (omega arith) in
+    let values : (λ (e : ℕ) (v : List ℕ). value_among (take n cs) v n e) ≡ (λ (e : ℕ) (v : List ℕ). value_among cs v n e) = fun_ext (λ e. fun_ext (λ v. ap (λ f. f e) (value v))) in
+    let named : (λ (e x : ℕ). names_among (take n cs) x n e) ≡ (λ (e x : ℕ). names_among cs x n e) = fun_ext (λ e. fun_ext (λ x. ap (λ f. f e) (names x))) in
+    ap (λ f. record { count = n; value = f; names = λ e x. names_among (take n cs) x n e }) values
+    ∙ ap (λ g. record { count = n; value = λ e v. value_among cs v n e; names = g }) named

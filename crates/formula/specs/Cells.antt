@@ -5,6 +5,7 @@
 --     value_among, names_among   the same of cell e among the first n
 --     lawful_among cs n          each of the first n cells keeps the rules
 --     lawful cs                  each cell does
+--     meaning_among cs n         the language of the first n cells
 --     meaning_of cs              the language of the cells
 use Rattle.std.specs.Prelude.{ℕ, zero, suc, ◌+◌, ◌-◌, ◌*◌, Bool, true, false, cond, ◌&&◌, ◌||◌, List, length, ◌==◌, nat_lt, slice_index_or}
 use Rattle.language.specs.Files.{every}
@@ -57,5 +58,8 @@ lawful_among cs n = every (λ k. ruled k (cell_at cs k)) n
 abbrev pub lawful : List Cell → Bool
 lawful cs = lawful_among cs (length cs)
 
+abbrev pub meaning_among : List Cell → ℕ → Meaning
+meaning_among cs n = record { count = n; value = λ e v. value_among cs v n e; names = λ e x. names_among cs x n e }
+
 abbrev pub meaning_of : List Cell → Meaning
-meaning_of cs = record { count = length cs; value = λ e v. value_among cs v (length cs) e; names = λ e x. names_among cs x (length cs) e }
+meaning_of cs = meaning_among cs (length cs)

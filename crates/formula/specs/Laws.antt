@@ -4,7 +4,7 @@ use Rattle.std.proofs.Common.{ap, ⊎_elim, arith}
 use Rattle.std.proofs.lemmas.Bool.{and_parts, cond_both, eq-eqb, eqb-true, ltb-true, or_cases, or_left, or_right, false≢true}
 use Rattle.language.specs.Meanings.{Agree, Lawful, word}
 use Rattle.formula.specs.Among.{value_beyond, names_beyond}
-use Rattle.formula.specs.Cells.{lawful, lawful_among, ruled, cell_at, step_of, reads_of, applied, value_among, names_among, meaning_of}
+use Rattle.formula.specs.Cells.{lawful, lawful_among, ruled, cell_at, step_of, reads_of, applied, value_among, names_among, meaning_of, meaning_among}
 use Rattle.formula.specs.declared.cell.Operation.{Operation}
 use Rattle.formula.specs.declared.cell.Operation.TheVariants.{Sum, Difference, Product, Equal, Less}
 use Rattle.formula.specs.declared.cell.Cell.{Cell}
@@ -75,10 +75,9 @@ module _ (v w : List ℕ) where
       (value_agrees cs n e)
       h
 
--- cells that each keep the rules are a lawful language
-pub lawful_language : (cs : List Cell) → length cs ≤ 256 → lawful cs ≡ true → Lawful (meaning_of cs)
-lawful_language cs few ok =
-    let n = length cs in
+-- the first n cells, each of which keeps the rules, are a lawful language
+pub lawful_language_among : (cs : List Cell) (n : ℕ) → n ≤ 256 → lawful_among cs n ≡ true → Lawful (meaning_among cs n)
+lawful_language_among cs n few ok =
     record {
       few = few;
       small = λ e v. value_small cs v n e;
@@ -87,3 +86,7 @@ lawful_language cs few ok =
       nameless = λ e x le. names_beyond cs x n e le;
       agrees = λ e v w h. value_agrees v w cs n e h;
     }
+
+-- and so are cells that each keep the rules
+pub lawful_language : (cs : List Cell) → length cs ≤ 256 → lawful cs ≡ true → Lawful (meaning_of cs)
+lawful_language cs = lawful_language_among cs (length cs)
