@@ -56,3 +56,15 @@ fn the_smallest_fills_its_buffer(rt: HostRuntime) {
     assert_eq!(rt; written, Ok(15));
     assert!(rt; comes_back(&out));
 }
+
+#[test]
+fn a_clone_is_written_alike(rt: HostRuntime) -> Result<(), Fail> {
+    let equation = Equation::smallest();
+    let copy = equation.clone()?;
+    let mut first = [7; 15];
+    let mut second = [9; 15];
+    assert_eq!(rt; write(&equation, &mut first), Ok(15));
+    assert_eq!(rt; write(&copy, &mut second), Ok(15));
+    assert_eq!(rt; first, second);
+    Ok(())
+}
