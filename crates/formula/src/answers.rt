@@ -1,7 +1,7 @@
 // The answers of cells to a question, each found once: a shared cell is not worked out again.
 ghost use Rattle.std.specs.Prelude.{◌≡◌, ℕ, ◌<◌, ◌≤◌, true, length, replicate, None};
 ghost use Rattle.arrayvec.specs.ArrayVec.{array_vec_len};
-ghost use Rattle.formula.specs.Answers.{Kept, Solves};
+ghost use Rattle.formula.specs.Answers.{Kept, Solves, Chosen};
 ghost use Rattle.formula.specs.Cells.{cell_at, ruled, step_of, reads_of};
 ghost use Rattle.formula.specs.declared.cell.Cell.{Cell};
 ghost use Rattle.formula.specs.declared.cell.Cell.TheVariants.{Constant, Variable, Binary, Choose};
@@ -9,6 +9,14 @@ ghost use Rattle.formula.specs.declared.cell.Cell.TheVariants.{Constant, Variabl
 use crate::cell::{Cell, Operation};
 use crate::formula::Formula;
 use language::variable_value;
+
+// Which operand a choice is as, once its first is known: where one is, the other is not worked out.
+#[derive(Clone, Copy, Debug, PartialEq, Eq)]
+pub(crate) enum Choosing {
+    Second,
+    Third,
+    ByBoth,
+}
 
 // What each kind of cell answers by the answers of its operands.
 pub(crate) trait Question<X> {
@@ -23,6 +31,9 @@ pub(crate) trait Question<X> {
 
     fn operation(&self, operation: Operation, x: X, y: X) -> X
         ensures answer { (f : ℕ → X) (a b : ℕ) → x ≡ f a → y ≡ f b → result ≡ step self.now (Binary operation a b) f };
+
+    fn choosing(&self, x: X) -> Choosing
+        ensures answer { (f : ℕ → X) (a b c : ℕ) → x ≡ f a → Chosen result (step self.now (Choose a b c) f) (f b) (f c) };
 
     fn choice(&self, x: X, y: X, z: X) -> X
         ensures answer { (f : ℕ → X) (a b c : ℕ) → x ≡ f a → y ≡ f b → z ≡ f c → result ≡ step self.now (Choose a b c) f };
@@ -49,6 +60,14 @@ impl<'a> Question<u16> for Value<'a> {
         operation.apply(x, y)
     }
 
+    fn choosing(&self, x: u16) -> Choosing {
+        if x != 0 {
+            Choosing::Second
+        } else {
+            Choosing::Third
+        }
+    }
+
     fn choice(&self, x: u16, y: u16, z: u16) -> u16 {
         if x != 0 { y } else { z }
     }
@@ -73,6 +92,10 @@ impl Question<bool> for Names {
 
     fn operation(&self, _operation: Operation, p: bool, q: bool) -> bool {
         p || q
+    }
+
+    fn choosing(&self, _p: bool) -> Choosing {
+        Choosing::ByBoth
     }
 
     fn choice(&self, p: bool, q: bool, s: bool) -> bool {
@@ -113,31 +136,33 @@ impl Formula {
             }
             Cell::Choose(a, b, c) => {
                 let x = self.find(a, question, memo);
-                let y = self.find(b, question, memo);
-                let z = self.find(c, question, memo);
-                question.choice(x, y, z)
+                match question.choosing(x) {
+                    Choosing::Second => self.find(b, question, memo),
+                    Choosing::Third => self.find(c, question, memo),
+                    Choosing::ByBoth => {
+                        let y = self.find(b, question, memo);
+                        let z = self.find(c, question, memo);
+                        question.choice(x, y, z)
+                    }
+                }
             }
         };
         memo[at] = Some(found);
         found
     }
 
-    // The answer of `expression`, or `otherwise` where there is no such cell. The memo, which has no
-    // answer yet, is the caller's: only there is the size of an answer known.
+    // The answer of `expression`. The memo, which has no answer yet, is the caller's: only there is the size of
+    // an answer known.
     pub(crate) fn answer<X: Copy, Q: Question<X>>(
         &self,
         expression: u16,
         question: &Q,
         memo: &mut [Option<X>],
-        otherwise: X,
     ) -> X
+        requires within { expression < array_vec_len self.now.cells }
         requires blank { memo.old ≡ replicate 256 None }
-        ensures within { expression < array_vec_len self.now.cells → (f : ℕ → X) → Solves (Q.step question.now) self.now.cells.items f → result ≡ f expression }
-        ensures beyond { array_vec_len self.now.cells ≤ expression → result ≡ otherwise }
+        ensures answer { (f : ℕ → X) → Solves (Q.step question.now) self.now.cells.items f → result ≡ f expression }
     {
-        if usize::from(expression) >= self.cells.len() {
-            return otherwise;
-        }
         self.find(expression, question, memo)
     }
 }

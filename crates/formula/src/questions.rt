@@ -18,11 +18,17 @@ impl Language for Formula {
     }
 
     fn value(&self, expression: u16, valuation: &[u16]) -> u16 {
-        self.answer(expression, &Value { valuation }, &mut [None; 256], 0)
+        if expression >= self.count() {
+            return 0;
+        }
+        self.answer(expression, &Value { valuation }, &mut [None; 256])
     }
 
     fn names(&self, expression: u16, variable: u16) -> bool {
-        self.answer(expression, &Names { variable }, &mut [None; 256], false)
+        if expression >= self.count() {
+            return false;
+        }
+        self.answer(expression, &Names { variable }, &mut [None; 256])
     }
 }
 

@@ -7,4 +7,4 @@ pub mod Shows
 pub mod Parsed
 pub mod Wholes
 pub mod Printed
-pub mod Copies
+pub mod Filling

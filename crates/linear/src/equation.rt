@@ -5,11 +5,12 @@ ghost use Rattle.linear.specs.Laws.{lawful};
 use crate::table::Table;
 use std::alloc::AllocError;
 
-#[derive(Drop)]
 pub struct Equation {
     pub table: Table,
     ghost lawful: { lawful table ≡ true },
 }
+
+impl Copy for Equation {}
 
 // The clone is equal to the equation, which keeps it lawful. All of it lies in the value itself, so no memory can be wanting.
 impl Clone for Equation {
@@ -18,7 +19,6 @@ impl Clone for Equation {
     ghost is_infallible = { λ _. ⊤ };
 
     fn clone(&self) -> Result<Equation, AllocError> {
-        let table = self.table.clone()?;
-        Ok(Equation { table })
+        Ok(*self)
     }
 }

@@ -1,46 +1,79 @@
 // Lists of at most so many items, which lie in the value itself: the project's tables are of fixed size.
-ghost use Rattle.std.specs.Prelude.{◌≡◌, ◌≤◌, ◌<◌, ℕ, [], length, slice_get, slice_index_or};
-ghost use Rattle.std.specs.List.{AllZip};
+ghost use Rattle.std.specs.Prelude.{◌≡◌, ◌≤◌, ◌<◌, ◌++◌, ◌∷◌, ⊤, [], length, min, nat_lt, slice_get, slice_index_or};
 ghost use Rattle.linear.specs.Shown.{shown};
 
-use arrayvec::ArrayVec;
+use crate::item::Item;
 use std::alloc::AllocError;
 use std::marker::Model;
 
-#[derive(Default, Drop)]
-pub struct FixedList<T: Default, const MOST: usize> {
-    pub items: ArrayVec<T, MOST>,
+// The places that hold no item are blank, so that the list says all of what lies in them: that lets it be copied. The
+// count is short to keep tables small, so that no list is of more than 65,535 items.
+pub struct FixedList<T: Item, const MOST: usize> {
+    places: [T; MOST],
+    count: u16,
 }
 
 // A clause sees the list of the items.
-impl<T: Default, const MOST: usize> Model for FixedList<T, MOST> {
-    ghost use Rattle.std.specs.Prelude.{List};
+impl<T: Item, const MOST: usize> Model for FixedList<T, MOST> {
+    ghost use Rattle.std.specs.Prelude.{◌≡◌, ◌≤◌, List, length, take};
+    ghost use Rattle.std.proofs.Common.{sym};
+    ghost use Rattle.linear.specs.Places.{filled, item_count};
 
     ghost Value = { List T };
 
-    ghost view = { λ l. l.items.items };
+    ghost view = { λ l. take l.count l.places };
+
+    ghost invariant = { λ l. (l.count ≤ MOST) × (l.places ≡ filled T.blank MOST (take l.count l.places)) };
+
+    ghost inverse = { λ xs. record { places = filled T.blank MOST xs; count = length xs } };
+
+    ghost inverse_ok = { λ l h i. record { places = sym h.1 i; count = item_count T.blank MOST l.count l.places h.0 h.1 i } };
 }
 
-// By hand, since a derived clone speaks of the vectors inside, and not of the lists that a clause sees.
-impl<T: Default + Clone, const MOST: usize> Clone for FixedList<T, MOST> {
-    ghost is_clone = { λ l copy. AllZip T.is_clone l copy };
+impl<T: Item, const MOST: usize> Copy for FixedList<T, MOST> {}
 
-    ghost is_infallible = { λ l. (i : ℕ) (d : T) → i < length l → T.is_infallible (slice_index_or l i d) };
+impl<T: Item, const MOST: usize> Clone for FixedList<T, MOST> {
+    ghost is_clone = { λ l copy. copy ≡ l };
+
+    ghost is_infallible = { λ _. ⊤ };
 
     fn clone(&self) -> Result<Self, AllocError> {
-        Ok(FixedList {
-            items: self.items.clone()?,
-        })
+        Ok(*self)
     }
 }
 
-impl<T: Default, const MOST: usize> FixedList<T, MOST> {
+impl<T: Item, const MOST: usize> Default for FixedList<T, MOST> {
+    ghost is_default = { λ l. l ≡ [] };
+
+    fn default() -> Self {
+        FixedList {
+            places: [T::blank(); MOST],
+            count: 0,
+        }
+    }
+}
+
+impl<T: Item, const MOST: usize> FixedList<T, MOST> {
+    // One item more, if there is room.
+    pub fn push(&mut self, item: T) -> bool
+        ensures answer { result ≡ nat_lt (length self.old) (min MOST 65535) }
+        ensures room { length self.old < min MOST 65535 → self.new ≡ self.old ++ item ∷ [] }
+        ensures full { min MOST 65535 ≤ length self.old → self.new ≡ self.old }
+    {
+        if usize::from(self.count) >= MOST || self.count == u16::MAX {
+            return false;
+        }
+        self.places[usize::from(self.count)] = item;
+        self.count += 1;
+        true
+    }
+
     // The items in their order.
     pub fn as_slice(&self) -> &[T]
         ensures answer { result.now ≡ self.now }
         ensures small { length result.now ≤ MOST }
     {
-        self.items.as_slice()
+        &self.places[..usize::from(self.count)]
     }
 
     // How many items there are.
@@ -48,7 +81,7 @@ impl<T: Default, const MOST: usize> FixedList<T, MOST> {
         ensures answer { result ≡ length self.now }
         ensures small { result ≤ MOST }
     {
-        self.items.len()
+        self.as_slice().len()
     }
 
     // The item at an index; none from their number up.
@@ -60,8 +93,6 @@ impl<T: Default, const MOST: usize> FixedList<T, MOST> {
 
     // The item at an index; beyond the list this other one.
     pub fn get_or(&self, index: usize, otherwise: T) -> T
-    where
-        T: Copy,
         ensures answer { result ≡ slice_index_or self.now index otherwise }
     {
         let items = self.as_slice();

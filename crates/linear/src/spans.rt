@@ -2,6 +2,7 @@
 ghost use Rattle.std.specs.Prelude.{◌≡◌, ℕ, ◌*◌, ◌≤◌, List, length};
 ghost use Rattle.linear.specs.Layout.{guard_words, acts_words, rate_words};
 
+use crate::item::Item;
 use crate::summand::{Act, Guard};
 
 impl Guard {
@@ -15,7 +16,7 @@ impl Guard {
 }
 
 // What a summand does: it acts, or it waits at the rate of an expression.
-pub trait Doing: Default + Drop {
+pub trait Doing: Item + Default {
     // its words in a file
     ghost words: { Self → List ℕ };
 

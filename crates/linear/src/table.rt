@@ -3,13 +3,13 @@ use crate::fixed::FixedList;
 use crate::summand::{ActionSummand, DelaySummand, WordList};
 
 // A program counter and one value for each variable.
-#[derive(Clone, Default, Drop)]
+#[derive(Clone, Copy, Default)]
 pub struct Vector {
     pub counter: u16,
     pub values: WordList,
 }
 
-#[derive(Clone, Default, Drop)]
+#[derive(Clone, Copy, Default)]
 pub struct Table {
     pub sizes: WordList,
     pub counters: u16,

@@ -5,7 +5,6 @@ ghost use Rattle.linear.specs.Reading.{kept_from, head_in, size_rule, value_rule
 ghost use Rattle.linear_read.specs.Spots.{begun, to};
 
 use crate::reader::Reader;
-use arrayvec::ArrayVec;
 use linear::{HEAD, LinearFault, Vector, WordList};
 
 // What each word of a list in the head keeps.
@@ -45,7 +44,7 @@ impl<'a> Reader<'a> {
         ensures moves { IfOk result (λ ws. self.new ≡ to self.old (self.old.at + 2 * count)) }
         ensures long { IfOk result (λ ws. length ws ≡ count) }
     {
-        let mut items = ArrayVec::new();
+        let mut items = WordList::default();
         for k in 0..count {
             let word = self.word()?;
             if !rule.keeps(k, word) {
@@ -53,7 +52,7 @@ impl<'a> Reader<'a> {
             }
             items.push(word);
         }
-        Ok(WordList { items })
+        Ok(items)
     }
 
     // The sizes of the variables, the number of program counters and the first vector.

@@ -11,7 +11,6 @@ ghost use Rattle.words.specs.Words.{word_at};
 
 use crate::reader::Reader;
 use crate::rules::Names;
-use arrayvec::ArrayVec;
 use linear::{Act, Doing, Entry, EntryList, Guard, LinearFault, Place, Summand, Target};
 use words::word_at;
 
@@ -100,11 +99,11 @@ impl<'a> Reader<'a> {
         ensures answer { result ≡ entries_from self.now.bytes self.now.at self.now.variables }
     {
         let (pairs, _) = self.bytes[self.at..self.at + 4 * self.variables].as_chunks::<4>();
-        let mut items = ArrayVec::new();
+        let mut items = EntryList::default();
         for pair in pairs {
             items.push(entry_at(pair, 0)?);
         }
-        Some(EntryList { items })
+        Some(items)
     }
 
     // The next program counter, and an entry for each variable. Entries of which one is none are left out:

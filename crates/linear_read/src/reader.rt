@@ -4,7 +4,6 @@ ghost use Rattle.words.specs.Headers.{header_of};
 ghost use Rattle.linear.specs.Reading.{or_linear_fault, word_in, count_in, words_in, list_in};
 ghost use Rattle.linear_read.specs.Spots.{begun, to};
 
-use arrayvec::ArrayVec;
 use linear::{HEAD, LinearFault, Place, WordList};
 use std::marker::Model;
 use words::{check_header, word_at};
@@ -88,12 +87,12 @@ impl<'a> Reader<'a> {
             return Err(LinearFault::Length(self.place));
         }
         let (words, _) = self.bytes[self.at..self.at + 2 * usize::from(count)].as_chunks::<2>();
-        let mut items = ArrayVec::new();
+        let mut items = WordList::default();
         for word in words {
             items.push(u16::from_be_bytes(*word));
         }
         self.at += 2 * usize::from(count);
-        Ok(WordList { items })
+        Ok(items)
     }
 
     // The next list with its count in front, of at most `most` words.

@@ -4,7 +4,6 @@ ghost use Rattle.linear.specs.Reading.{summands_from, section_in};
 
 use crate::parts::Part;
 use crate::reader::Reader;
-use arrayvec::ArrayVec;
 use linear::{FixedList, Group, LinearFault, Place, Summand};
 
 impl<'a> Reader<'a> {
@@ -21,12 +20,12 @@ impl<'a> Reader<'a> {
         ensures bytes { OnOk result (self.new.bytes ≡ self.old.bytes) }
         ensures variables { OnOk result (self.new.variables ≡ self.old.variables) }
     {
-        let mut items = ArrayVec::new();
+        let mut items = FixedList::default();
         for k in 0..count {
             let summand = self.summand(Place { group, summand: k })?;
             items.push(summand);
         }
-        Ok(FixedList { items })
+        Ok(items)
     }
 
     // A section of at most so many summands.

@@ -41,14 +41,23 @@ impl<'a> Writer<'a> {
         self.put_list(&guard.conditions);
     }
 
+    // The two words of an entry.
+    fn put_entry(&mut self, entry: Entry)
+        requires room { HasRoom (written self.old) (entry_words entry) }
+        ensures leaves { written self.new ≡ after (written self.old) (entry_words entry) }
+    {
+        let [kind, expression] = <[u16; 2]>::from(entry);
+        self.put(kind);
+        self.put(expression);
+    }
+
     // One entry after another.
     fn put_entries(&mut self, entries: &[Entry])
         requires room { HasRoom (written self.old) (flat_map entry_words entries.now) }
         ensures leaves { written self.new ≡ after (written self.old) (flat_map entry_words entries.now) }
     {
         for entry in entries {
-            let words = <[u16; 2]>::from(*entry);
-            self.put_words(&words);
+            self.put_entry(*entry);
         }
     }
 

@@ -14,7 +14,7 @@ abbrev pub passed : ℕ → Taken → Passed
 passed w t = record { step = t.step; from = take w t.from }
 
 abbrev pub course : ℕ → Trail → Course
-course w t = record { here = take w t.here; past = reverse (map (passed w) t.past.items) }
+course w t = record { here = take w t.here; past = reverse (map (passed w) t.past) }
 
 -- where a row's first w words lead
 abbrev pub seen : ℕ → Result Ahead Refusal → Result Next Refusal

@@ -6,7 +6,7 @@ ghost use Rattle.system.specs.Trails.{course, seen};
 use crate::answers::{Rate, Step};
 use crate::refusal::Refusal;
 use crate::rows::Ahead;
-use arrayvec::ArrayVec;
+use std::marker::Model;
 
 const MOST_STEPS: usize = 64;
 
@@ -27,11 +27,24 @@ impl Default for Taken {
     }
 }
 
-// The row of the present state, and the steps, the oldest first.
+// The steps, the oldest first, in the places before `depth`; the row of the present state lies in
+// place `depth`, where the next step is put beside it, so that a step back moves no row.
 #[derive(Drop)]
 pub struct Trail {
-    here: [u16; 64],
-    past: ArrayVec<Taken, MOST_STEPS>,
+    places: [Taken; 65],
+    depth: usize,
+}
+
+// It is seen as the row of the present state and the steps.
+impl Model for Trail {
+    ghost use Rattle.std.specs.Prelude.{◌≡◌, ◌≤◌, length, take, slice_index_or};
+    ghost use Rattle.system.specs.Places.{Held, no_place};
+
+    ghost Value = { Held };
+
+    ghost view = { λ t. record { here = (slice_index_or t.places t.depth no_place).from; past = take t.depth t.places } };
+
+    ghost invariant = { λ t. (t.depth ≤ 64) × (length t.places ≡ 65) };
 }
 
 impl Trail {
@@ -39,30 +52,29 @@ impl Trail {
     pub(crate) fn begun(row: [u16; 64]) -> Trail
         ensures answer { (w : ℕ) → course w result ≡ fresh (take w row) }
     {
-        Trail {
-            here: row,
-            past: ArrayVec::new(),
-        }
+        let mut places = [Taken::default(); 65];
+        places[0].from = row;
+        Trail { places, depth: 0 }
     }
 
     // The row of the present state.
     pub(crate) fn here(&self) -> &[u16; 64]
         ensures answer { result.now ≡ self.now.here }
     {
-        &self.here
+        &self.places[self.depth].from
     }
 
     pub(crate) fn len(&self) -> usize
         ensures answer { (w : ℕ) → result ≡ length (course w self.now).past }
     {
-        self.past.len()
+        self.depth
     }
 
     // Step i, the oldest being 0.
     pub(crate) fn step(&self, i: usize) -> Option<Step>
         ensures answer { (w : ℕ) → result ≡ step_at (course w self.now).past i }
     {
-        let taken = self.past.get(i)?;
+        let taken = self.places[..self.depth].get(i)?;
         Some(taken.step)
     }
 
@@ -71,12 +83,14 @@ impl Trail {
         ensures answer { (w : ℕ) → result ≡ step_answer (seen w (Ok ahead)) (course w self.old) }
         ensures leaves { (w : ℕ) → course w self.new ≡ step_course (seen w (Ok ahead)) (course w self.old) }
     {
+        let at = self.depth;
+        if at >= MOST_STEPS {
+            return Err(Refusal::TrailFull);
+        }
         let Ahead { step, row } = ahead;
-        let from = self.here;
-        self.past
-            .try_push(Taken { step, from })
-            .map_err(|_| Refusal::TrailFull)?;
-        self.here = row;
+        self.places[at].step = step;
+        self.places[at + 1].from = row;
+        self.depth = at + 1;
         Ok(())
     }
 
@@ -85,8 +99,10 @@ impl Trail {
         ensures answer { (w : ℕ) → result ≡ back_answer (course w self.old).past }
         ensures leaves { (w : ℕ) → course w self.new ≡ back_course (course w self.old).past (course w self.old) }
     {
-        let Taken { from, .. } = self.past.pop().ok_or(Refusal::TrailEmpty)?;
-        self.here = from;
+        if self.depth == 0 {
+            return Err(Refusal::TrailEmpty);
+        }
+        self.depth -= 1;
         Ok(())
     }
 }

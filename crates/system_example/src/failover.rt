@@ -56,7 +56,9 @@ fn put(target: &mut [u16], mode: Mode)
     requires { length target.old ≡ 2 }
     ensures { target.new ≡ words_of mode }
 {
-    target.copy_from_slice(&mode.words());
+    let [primary, standby] = mode.words();
+    target[0] = primary;
+    target[1] = standby;
 }
 
 // Requests go to the primary, or to the standby once the primary is down.

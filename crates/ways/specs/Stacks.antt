@@ -1,5 +1,5 @@
 -- What a stack of frames has yet to give, and how much work that is.
-use Rattle.std.specs.Prelude.{◌≡◌, ℕ, zero, suc, ◌+◌, ◌-◌, ◌<◌, ◌≤◌, List, [], ◌∷◌, ◌++◌, length, reverse, slice_index_or, replicate, sum_by, Some, None, Option, slice_index, slice_set, refl}
+use Rattle.std.specs.Prelude.{◌≡◌, ℕ, zero, suc, ◌+◌, ◌-◌, ◌<◌, ◌≤◌, List, [], ◌∷◌, ◌++◌, length, reverse, slice_index_or, replicate, sum_by, take, Some, None, Option, slice_index, slice_set, refl}
 use Rattle.std.proofs.Common.{lit≤}
 use Rattle.std.specs.List.{range_with_len, flat_map}
 use Rattle.language.specs.Meanings.{Meaning}
@@ -63,6 +63,13 @@ module _ (sizes : List ℕ) (tree : ℕ → Tree) where
 -- frame i is at a node of at least i
 abbrev pub Rising : List Frame → Type 0
 Rising fs = (i : ℕ) → i < length fs → i ≤ (slice_index_or fs i no_frame).node
+
+-- the frame on top, and the frames below it
+abbrev pub top : List Frame → Frame
+top fs = slice_index_or fs (length fs - 1) no_frame
+
+abbrev pub below : List Frame → List Frame
+below fs = take (length fs - 1) fs
 
 -- what was left is what was found, if anything was, and what is left
 abbrev pub Gives : Option Found → List Leaf → List Leaf → Type 0

@@ -1,9 +1,9 @@
 // The cursor: the leaves of a node under a valuation, one after the other.
-ghost use Rattle.std.specs.Prelude.{◌≡◌, ℕ, ◌≤◌, List, length};
+ghost use Rattle.std.specs.Prelude.{◌≡◌, ℕ, ◌+◌, ◌<◌, ◌≤◌, List, [], ◌∷◌, ◌++◌, length};
 ghost use Rattle.language.specs.Meanings.{Meaning};
 ghost use Rattle.valuation.specs.Valuations.{listed};
 ghost use Rattle.ways.specs.Leaves.{leaves};
-ghost use Rattle.ways.specs.Stacks.{Rising, remaining, Turned, Yields};
+ghost use Rattle.ways.specs.Stacks.{Rising, top, below, remaining, Turned, Yields};
 ghost use Rattle.ways.specs.Trees.{Tree};
 
 use crate::branch::{Branch, Found};
@@ -30,45 +30,70 @@ impl Cursor {
         Cursor { frames }
     }
 
-    // Puts on what follows from a frame that was taken off.
-    fn turn<N: Nodes, L: Language>(
-        &mut self,
-        frame: Frame,
-        nodes: &N,
-        language: &L,
-    ) -> Option<Found>
-        requires { length self.old.frames.items ≤ frame.node }
-        ensures { Turned (L.Language.meaning language.now) (N.Nodes.sizes nodes.now) (N.Nodes.tree nodes.now) frame self.old.frames.items result self.new.frames.items }
+    // The frame on top, which is the last one.
+    fn top(&self) -> Frame
+        requires { 0 < length self.now.frames.items }
+        ensures { result ≡ top self.now.frames.items }
     {
+        self.frames[self.frames.len() - 1]
+    }
+
+    // Writes a frame over the top one.
+    fn put(&mut self, frame: Frame)
+        requires some { 0 < length self.old.frames.items }
+        requires rises { length self.old.frames.items ≤ frame.node + 1 }
+        ensures { self.new.frames.items ≡ below self.old.frames.items ++ frame ∷ [] }
+    {
+        let at = self.frames.len() - 1;
+        self.frames[at] = frame;
+    }
+
+    // Takes the top frame off, and puts on what follows from it. Where something follows, it is written over that frame:
+    // `pop` writes a blank first.
+    fn turn<N: Nodes, L: Language>(&mut self, nodes: &N, language: &L) -> Option<Found>
+        requires { 0 < length self.old.frames.items }
+        ensures { Turned (L.Language.meaning language.now) (N.Nodes.sizes nodes.now) (N.Nodes.tree nodes.now) (top self.old.frames.items) (below self.old.frames.items) result self.new.frames.items }
+    {
+        let frame = self.top();
         let valuation = frame.valuation;
         match nodes.branch(frame.node) {
-            Branch::Dead => None,
+            Branch::Dead => {
+                self.frames.pop();
+                None
+            }
             Branch::Condition(condition, child) => {
                 if holds(language, condition, &valuation) {
-                    self.frames.push(Frame::new(child, valuation));
+                    self.put(Frame::new(child, valuation));
+                } else {
+                    self.frames.pop();
                 }
                 None
             }
             Branch::Choice(left, right) => {
-                self.frames.push(Frame::new(right, valuation));
+                self.put(Frame::new(right, valuation));
                 self.frames.push(Frame::new(left, valuation));
                 None
             }
             Branch::Sum(variable, child) => {
                 if frame.from < nodes.size(variable) {
-                    self.frames.push(Frame {
+                    self.put(Frame {
                         from: frame.from + 1,
                         ..frame
                     });
                     let set = valuation.with(variable, frame.from);
                     self.frames.push(Frame::new(child, set));
+                } else {
+                    self.frames.pop();
                 }
                 None
             }
-            Branch::Leaf => Some(Found {
-                node: frame.node,
-                valuation,
-            }),
+            Branch::Leaf => {
+                self.frames.pop();
+                Some(Found {
+                    node: frame.node,
+                    valuation,
+                })
+            }
         }
     }
 
@@ -76,8 +101,8 @@ impl Cursor {
     pub(crate) fn next<N: Nodes, L: Language>(&mut self, nodes: &N, language: &L) -> Option<Found>
         ensures { Yields result (remaining (L.Language.meaning language.now) (N.Nodes.sizes nodes.now) (N.Nodes.tree nodes.now) self.old.frames.items) (remaining (L.Language.meaning language.now) (N.Nodes.sizes nodes.now) (N.Nodes.tree nodes.now) self.new.frames.items) }
     {
-        while let Some(frame) = self.frames.pop() {
-            if let Some(leaf) = self.turn(frame, nodes, language) {
+        while !self.frames.is_empty() {
+            if let Some(leaf) = self.turn(nodes, language) {
                 return Some(leaf);
             }
         }

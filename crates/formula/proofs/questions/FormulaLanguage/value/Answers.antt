@@ -1,8 +1,13 @@
-use Rattle.std.proofs.Common.{length, sym, ◌∙◌, ⊎_elim}
-use Rattle.std.proofs.lemmas.Bool.{cases_lt}
+use Rattle.std.proofs.Common.{length, sym, subst, ◌≤◌}
 use Rattle.formula.specs.Among.{value_is, value_beyond}
 use Rattle.formula.specs.Cells.{value_among}
 use Rattle.formula.proofs.questions.FormulaLanguage.value.Goals as goal
+
+pub returns-then-expression-count : goal.returns-then-expression-count
+returns-then-expression-count c =
+    let cs = c.args.self.now.cells.items in
+    let beyond : length cs ≤ c.args.expression = subst (λ n. n ≤ c.args.expression) c.count.ensures.answer c.if-expression-count.true in
+    record { answer = sym (value_beyond cs c.args.valuation.now (length cs) c.args.expression beyond) }
 
 pub returns : goal.returns
 returns c =
@@ -10,10 +15,4 @@ returns c =
     let cs = f.cells.items in
     let n = length cs in
     let asked = c.args.valuation.now in
-    record {
-      answer =
-          ⊎_elim
-          (λ within. c.answer.ensures.within within (value_among cs asked n) (λ e lt. value_is cs n e f.ruled lt asked))
-          (λ beyond. c.answer.ensures.beyond beyond ∙ sym (value_beyond cs asked n c.args.expression beyond))
-          (cases_lt c.args.expression n);
-    }
+    record { answer = c.answer.ensures.answer (value_among cs asked n) (λ e lt. value_is cs n e f.ruled lt asked) }

@@ -1,4 +1,4 @@
-use Rattle.std.proofs.Common.{◌≡◌, ◌+◌, ◌-◌, ◌*◌, ◌/◌, ◌<◌, ◌≤◌, length, take, drop, Some, sym, ap, ◌∙◌, arith}
+use Rattle.std.proofs.Common.{◌≡◌, ◌+◌, ◌-◌, ◌*◌, ◌/◌, ◌<◌, ◌≤◌, [], ◌∷◌, ◌++◌, length, take, drop, Some, sym, ap, ◌∙◌, arith, length-append}
 use Rattle.std.proofs.lemmas.List.{length-take}
 use Rattle.linear.specs.Reading.{entries_from}
 use Rattle.linear.proofs.Rows.{entries_more, entries_none}
@@ -39,7 +39,10 @@ loop-pair-preserved c =
     let here = four_entry bytes at m n i c.as_chunks.result.0.now c.as_chunks.ensures.front within short in
     let before = ap (λ (s : Spot). entries_from s.bytes s.at i) c.self.view_is ∙ c.loop-pair.invariant.entries in
     let more = entries_more bytes at i _ _ before (sym here ∙ sym c.entry_at.ensures.answer ∙ c.in_ok-entry_at.was) in
+    let es = c.loop-pair.items in
+    let entry = c.in_ok-entry_at.field-0 in
+    let pushed : c.push.new.self ≡ es ++ entry ∷ [] = c.push.ensures.room (omega (arith, c.loop-pair.invariant.count)) in
     record {
-      count = omega arith;
-      entries = sym (ap (λ (s : Spot). entries_from s.bytes s.at (i + 1)) c.self.view_is) ∙ more ∙ ap Some (sym c.push.ensures.items);
+      count = ap length pushed ∙ length-append es (entry ∷ []) ∙ ap (λ n. n + 1) c.loop-pair.invariant.count;
+      entries = sym (ap (λ (s : Spot). entries_from s.bytes s.at (i + 1)) c.self.view_is) ∙ more ∙ ap Some (sym pushed);
     }

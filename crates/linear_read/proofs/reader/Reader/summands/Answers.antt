@@ -1,4 +1,4 @@
-use Rattle.std.proofs.Common.{◌+◌, ◌-◌, sym, refl, ap, ◌∙◌, arith}
+use Rattle.std.proofs.Common.{◌≡◌, ◌+◌, ◌-◌, [], ◌∷◌, ◌++◌, length, sym, refl, ap, ◌∙◌, arith, length-append}
 use Rattle.std.proofs.lemmas.Result.{err_from_is_err_and}
 use Rattle.linear.specs.Reading.{summands_from}
 use Rattle.linear.proofs.Sections.{summands_more, summands_stop}
@@ -20,12 +20,15 @@ loop-k-preserved g c =
     let n = c.args.count in
     let k = c.loop-k.k in
     let here = c.loop-k.self in
+    let ss = c.loop-k.items in
+    let summand = c.in_ok-summand.summand in
+    let pushed : c.push.new.self ≡ ss ++ summand ∷ [] = c.push.ensures.room (omega (arith, c.loop-k.invariant.0, c.loop-k-test.true, c.requires.few)) in
     let moves = c.in_ok-summand.ensures.moves in (
-      omega arith,
+      ap length pushed ∙ length-append ss (summand ∷ []) ∙ ap (λ m. m + 1) c.loop-k.invariant.0,
       ap (λ (s : Spot). s.bytes) moves ∙ c.loop-k.invariant.1,
       ap (λ (s : Spot). s.variables) moves ∙ c.loop-k.invariant.2,
-      ap (λ (s : Spot). summands_from reads words s.bytes s.variables c.args.group (n - (k + 1)) (k + 1) s.at c.push.new.self.items) moves
-          ∙ ap (summands_from reads words here.bytes here.variables c.args.group (n - (k + 1)) (k + 1) _) c.push.ensures.items
-          ∙ summands_more reads words here.bytes here.variables c.args.group n k here.at _ c.loop-k.items.items c.in_ok-summand.summand c.loop-k-test.true c.in_ok-summand.ensures.answer (refl)
+      ap (λ (s : Spot). summands_from reads words s.bytes s.variables c.args.group (n - (k + 1)) (k + 1) s.at c.push.new.self) moves
+          ∙ ap (summands_from reads words here.bytes here.variables c.args.group (n - (k + 1)) (k + 1) _) pushed
+          ∙ summands_more reads words here.bytes here.variables c.args.group n k here.at _ c.loop-k.items c.in_ok-summand.summand c.loop-k-test.true c.in_ok-summand.ensures.answer (refl)
           ∙ c.loop-k.invariant.3,
     )

@@ -5,6 +5,6 @@ use Rattle.linear_read.proofs.reader.Reader.words.Given as goal
 abbrev pub invariant-loop-word : goal.invariant-loop-word
 invariant-loop-word l =
     record {
-      count : length l.items.items ≡ l.word-index;
-      words : l.items.items ≡ words_from l.self-inside.bytes.now l.self-inside.at l.word-index;
+      count : length l.items ≡ l.word-index;
+      words : l.items ≡ words_from l.self-inside.bytes.now l.self-inside.at l.word-index;
     }

@@ -1,0 +1,24 @@
+-- The places of a list that an item is pushed to. Assumes nothing.
+use Rattle.std.proofs.Common.{◌≡◌, ℕ, suc, ◌+◌, ◌-◌, ◌<◌, List, [], ◌∷◌, ◌++◌, length, take, replicate, sym, ap, ◌∙◌, arith, length-append}
+use Rattle.std.proofs.Math.Seq.{set-append_seam}
+use Rattle.std.proofs.lemmas.List.{length-replicate, take_more_set, append_assoc}
+use Rattle.std.specs.Prelude.{slice_set}
+use Rattle.linear.specs.Places.{filled, item_count}
+
+-- blank places are one blank more and the rest
+blanks_more : {X : Type 0} (b : X) (n k : ℕ) → n ≡ suc k → replicate n b ≡ b ∷ replicate k b
+blanks_more b n k is = ap (λ i. replicate i b) is
+
+pub push_filled : {X : Type 0} (b x : X) (m n : ℕ) (ps : List X) → n < m → ps ≡ filled b m (take n ps) → slice_set ps n x ≡ filled b m (take (n + 1) (slice_set ps n x))
+push_filled b x m n ps lt is =
+    let xs = take n ps in
+    let k = m - (n + 1) in
+    let rest = replicate k b in
+    let long : length xs ≡ n = item_count b m n ps (omega arith) is in
+    let shape : ps ≡ xs ++ b ∷ rest = is ∙ ap (λ r. xs ++ r) (blanks_more b (m - length xs) k (omega (arith, long))) in
+    let within : n < length ps = omega (arith, ap length is, length-append xs (replicate (m - length xs) b), length-replicate (m - length xs) b, long) in
+    let put : slice_set ps n x ≡ xs ++ x ∷ rest = ap (λ l. slice_set l n x) shape ∙ ap (λ i. slice_set (xs ++ b ∷ rest) i x) (sym long) ∙ set-append_seam xs b rest x in
+    let more : take (n + 1) (slice_set ps n x) ≡ xs ++ x ∷ [] = take_more_set ps n x within in
+    let count : length (xs ++ x ∷ []) ≡ n + 1 = length-append xs (x ∷ []) ∙ ap (λ i. i + 1) long in
+    let after : filled b m (xs ++ x ∷ []) ≡ xs ++ x ∷ rest = ap (λ i. (xs ++ x ∷ []) ++ replicate (m - i) b) count ∙ append_assoc xs (x ∷ []) rest in
+    put ∙ sym after ∙ ap (filled b m) (sym more)
