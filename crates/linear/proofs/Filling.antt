@@ -1,7 +1,7 @@
--- The places of a list that an item is pushed to. Assumes nothing.
-use Rattle.std.proofs.Common.{◌≡◌, ℕ, suc, ◌+◌, ◌-◌, ◌<◌, List, [], ◌∷◌, ◌++◌, length, take, replicate, sym, ap, ◌∙◌, arith, length-append}
-use Rattle.std.proofs.Math.Seq.{set-append_seam}
-use Rattle.std.proofs.lemmas.List.{length-replicate, take_more_set, append_assoc}
+-- The places of a list that an item is pushed to, or that another item is put in. Assumes nothing.
+use Rattle.std.proofs.Common.{◌≡◌, ℕ, suc, ◌+◌, ◌-◌, ◌<◌, ◌≤◌, List, [], ◌∷◌, ◌++◌, length, take, replicate, sym, ap, ◌∙◌, arith, length-append}
+use Rattle.std.proofs.Math.Seq.{set-append_seam, take-set-lt}
+use Rattle.std.proofs.lemmas.List.{length-replicate, length-set, set-append_left, take_more_set, append_assoc}
 use Rattle.std.specs.Prelude.{slice_set}
 use Rattle.linear.specs.Places.{filled, item_count}
 
@@ -22,3 +22,13 @@ push_filled b x m n ps lt is =
     let count : length (xs ++ x ∷ []) ≡ n + 1 = length-append xs (x ∷ []) ∙ ap (λ i. i + 1) long in
     let after : filled b m (xs ++ x ∷ []) ≡ xs ++ x ∷ rest = ap (λ i. (xs ++ x ∷ []) ++ replicate (m - i) b) count ∙ append_assoc xs (x ∷ []) rest in
     put ∙ sym after ∙ ap (filled b m) (sym more)
+
+pub set_filled : {X : Type 0} (b x : X) (m n i : ℕ) (ps : List X) → n ≤ m → i < n → ps ≡ filled b m (take n ps) → slice_set ps i x ≡ filled b m (take n (slice_set ps i x))
+set_filled b x m n i ps le lt is =
+    let xs = take n ps in
+    let rest = replicate (m - length xs) b in
+    let within : i < length xs = omega (arith, item_count b m n ps le is) in
+    let put : slice_set ps i x ≡ slice_set xs i x ++ rest = ap (λ l. slice_set l i x) is ∙ set-append_left xs rest i x within in
+    let front : take n (slice_set ps i x) ≡ slice_set xs i x = take-set-lt n ps i x lt in
+    let after : filled b m (slice_set xs i x) ≡ slice_set xs i x ++ rest = ap (λ k. slice_set xs i x ++ replicate (m - k) b) (length-set xs i x) in
+    put ∙ sym after ∙ ap (filled b m) (sym front)

@@ -1,5 +1,5 @@
 // Lists of at most so many items, which lie in the value itself: the project's tables are of fixed size.
-ghost use Rattle.std.specs.Prelude.{◌≡◌, ◌≤◌, ◌<◌, ◌++◌, ◌∷◌, ⊤, [], length, min, nat_lt, slice_get, slice_index_or};
+ghost use Rattle.std.specs.Prelude.{◌≡◌, ◌≤◌, ◌<◌, ◌++◌, ◌∷◌, ⊤, [], length, min, nat_lt, slice_get, slice_index_or, slice_set};
 ghost use Rattle.linear.specs.Shown.{shown};
 
 use crate::item::Item;
@@ -7,10 +7,10 @@ use std::alloc::AllocError;
 use std::marker::Model;
 
 // The places that hold no item are blank, so that the list says all of what lies in them: that lets it be copied. The
-// count is short to keep tables small, so that no list is of more than 65,535 items.
+// count is short to keep tables small, and not shorter, since a push would wait for what the one before it stored.
 pub struct FixedList<T: Item, const MOST: usize> {
     places: [T; MOST],
-    count: u16,
+    count: u32,
 }
 
 // A clause sees the list of the items.
@@ -56,16 +56,25 @@ impl<T: Item, const MOST: usize> Default for FixedList<T, MOST> {
 impl<T: Item, const MOST: usize> FixedList<T, MOST> {
     // One item more, if there is room.
     pub fn push(&mut self, item: T) -> bool
-        ensures answer { result ≡ nat_lt (length self.old) (min MOST 65535) }
-        ensures room { length self.old < min MOST 65535 → self.new ≡ self.old ++ item ∷ [] }
-        ensures full { min MOST 65535 ≤ length self.old → self.new ≡ self.old }
+        ensures answer { result ≡ nat_lt (length self.old) (min MOST 4294967295) }
+        ensures room { length self.old < min MOST 4294967295 → self.new ≡ self.old ++ item ∷ [] }
+        ensures full { min MOST 4294967295 ≤ length self.old → self.new ≡ self.old }
     {
-        if usize::from(self.count) >= MOST || self.count == u16::MAX {
+        if self.count as usize >= MOST || self.count == u32::MAX {
             return false;
         }
-        self.places[usize::from(self.count)] = item;
+        self.places[self.count as usize] = item;
         self.count += 1;
         true
+    }
+
+    // Another item in the place of the one at an index; one beyond the list is left out.
+    pub fn set(&mut self, index: usize, item: T)
+        ensures leaves { self.new ≡ slice_set self.old index item }
+    {
+        if index < self.count as usize {
+            self.places[index] = item;
+        }
     }
 
     // The items in their order.
@@ -73,7 +82,7 @@ impl<T: Item, const MOST: usize> FixedList<T, MOST> {
         ensures answer { result.now ≡ self.now }
         ensures small { length result.now ≤ MOST }
     {
-        &self.places[..usize::from(self.count)]
+        &self.places[..self.count as usize]
     }
 
     // How many items there are.
