@@ -1,13 +1,20 @@
--- The places of a list that an item is pushed to, or that another item is put in. Assumes nothing.
-use Rattle.std.proofs.Common.{◌≡◌, ℕ, suc, ◌+◌, ◌-◌, ◌<◌, ◌≤◌, List, [], ◌∷◌, ◌++◌, length, take, replicate, sym, ap, ◌∙◌, arith, length-append}
-use Rattle.std.proofs.Math.Seq.{set-append_seam, take-set-lt}
-use Rattle.std.proofs.lemmas.List.{length-replicate, length-set, set-append_left, take_more_set, append_assoc}
+-- The places of a list that is made of items, that an item is pushed to, or that another item is put in. Assumes nothing.
+use Rattle.std.proofs.Common.{◌≡◌, ℕ, suc, ◌+◌, ◌-◌, ◌<◌, ◌≤◌, List, [], ◌∷◌, ◌++◌, length, take, drop, replicate, sym, ap, ◌∙◌, arith, length-append}
+use Rattle.std.proofs.Math.Seq.{set-append_seam, take-append_seam, take-set-lt}
+use Rattle.std.proofs.lemmas.List.{drop-replicate, length-replicate, length-set, set-append_left, take_more_set, append_assoc}
 use Rattle.std.specs.Prelude.{slice_set}
 use Rattle.linear.specs.Places.{filled, item_count}
 
 -- blank places are one blank more and the rest
 blanks_more : {X : Type 0} (b : X) (n k : ℕ) → n ≡ suc k → replicate n b ≡ b ∷ replicate k b
 blanks_more b n k is = ap (λ i. replicate i b) is
+
+pub new_filled : {X : Type 0} (b : X) (m n : ℕ) (xs : List X) → length xs ≡ n → xs ++ drop n (replicate m b) ≡ filled b m (take n (xs ++ drop n (replicate m b)))
+new_filled b m n xs long =
+    let rest = drop n (replicate m b) in
+    let front : take n (xs ++ rest) ≡ xs = ap (λ i. take i (xs ++ rest)) (sym long) ∙ take-append_seam xs rest in
+    let blanks : rest ≡ replicate (m - length xs) b = drop-replicate n m b ∙ ap (λ i. replicate (m - i) b) (sym long) in
+    ap (λ r. xs ++ r) blanks ∙ sym (ap (filled b m) front)
 
 pub push_filled : {X : Type 0} (b x : X) (m n : ℕ) (ps : List X) → n < m → ps ≡ filled b m (take n ps) → slice_set ps n x ≡ filled b m (take (n + 1) (slice_set ps n x))
 push_filled b x m n ps lt is =

@@ -1,5 +1,5 @@
 // Lists of at most so many items, which lie in the value itself: the project's tables are of fixed size.
-ghost use Rattle.std.specs.Prelude.{◌≡◌, ◌≤◌, ◌<◌, ◌++◌, ◌∷◌, ⊤, [], length, min, nat_lt, slice_get, slice_index_or, slice_set};
+ghost use Rattle.std.specs.Prelude.{◌≡◌, ◌≤◌, ◌<◌, ◌++◌, ◌∷◌, ⊤, [], length, min, nat_lt, slice_get, slice_index_or, slice_set, take};
 ghost use Rattle.linear.specs.Shown.{shown};
 
 use crate::item::Item;
@@ -7,10 +7,10 @@ use std::alloc::AllocError;
 use std::marker::Model;
 
 // The places that hold no item are blank, so that the list says all of what lies in them: that lets it be copied. The
-// count is short to keep tables small, and not shorter, since a push would wait for what the one before it stored.
+// count is short to keep tables small.
 pub struct FixedList<T: Item, const MOST: usize> {
     places: [T; MOST],
-    count: u32,
+    count: u16,
 }
 
 // A clause sees the list of the items.
@@ -54,13 +54,27 @@ impl<T: Item, const MOST: usize> Default for FixedList<T, MOST> {
 }
 
 impl<T: Item, const MOST: usize> FixedList<T, MOST> {
+    // The first of the items, as many as there is room for. A loop that makes many lists fills an array and hands it over:
+    // pushes wait for one another, as each reads the count that the one before it stored.
+    pub fn new(items: &[T]) -> Self
+        ensures answer { result ≡ take (min MOST 65535) items.now }
+    {
+        let count = items.len().min(MOST).min(65535);
+        let mut places = [T::blank(); MOST];
+        places[..count].copy_from_slice(&items[..count]);
+        FixedList {
+            places,
+            count: count as u16,
+        }
+    }
+
     // One item more, if there is room.
     pub fn push(&mut self, item: T) -> bool
-        ensures answer { result ≡ nat_lt (length self.old) (min MOST 4294967295) }
-        ensures room { length self.old < min MOST 4294967295 → self.new ≡ self.old ++ item ∷ [] }
-        ensures full { min MOST 4294967295 ≤ length self.old → self.new ≡ self.old }
+        ensures answer { result ≡ nat_lt (length self.old) (min MOST 65535) }
+        ensures room { length self.old < min MOST 65535 → self.new ≡ self.old ++ item ∷ [] }
+        ensures full { min MOST 65535 ≤ length self.old → self.new ≡ self.old }
     {
-        if self.count as usize >= MOST || self.count == u32::MAX {
+        if self.count as usize >= MOST || self.count == u16::MAX {
             return false;
         }
         self.places[self.count as usize] = item;

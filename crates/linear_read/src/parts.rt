@@ -99,11 +99,11 @@ impl<'a> Reader<'a> {
         ensures answer { result ≡ entries_from self.now.bytes self.now.at self.now.variables }
     {
         let (pairs, _) = self.bytes[self.at..self.at + 4 * self.variables].as_chunks::<4>();
-        let mut items = EntryList::default();
-        for pair in pairs {
-            items.push(entry_at(pair, 0)?);
+        let mut items = [Entry::Reset; 16];
+        for (k, pair) in pairs.iter().enumerate() {
+            items[k] = entry_at(pair, 0)?;
         }
-        Some(items)
+        Some(EntryList::new(&items[..self.variables]))
     }
 
     // The next program counter, and an entry for each variable. Entries of which one is none are left out:

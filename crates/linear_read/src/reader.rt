@@ -1,7 +1,7 @@
 // A linear file that is read from front to back: words, counts and lists.
 ghost use Rattle.std.specs.Prelude.{◌≡◌, ◌+◌, ◌*◌, ◌≤◌, length, Ok, Err, IfOk, OnOk, MatchResult, ◌==◌};
 ghost use Rattle.words.specs.Headers.{header_of};
-ghost use Rattle.linear.specs.Reading.{or_linear_fault, word_in, count_in, words_in, list_in};
+ghost use Rattle.linear.specs.Reading.{or_linear_fault, word_in, count_in, words_from, words_in, list_in};
 ghost use Rattle.linear_read.specs.Spots.{begun, to};
 
 use linear::{HEAD, LinearFault, Place, WordList};
@@ -77,22 +77,34 @@ impl<'a> Reader<'a> {
         Ok(count)
     }
 
+    // So many words from here on, which are there.
+    fn words_here(&self, count: usize) -> WordList
+        requires few { count ≤ 16 }
+        requires room { self.now.at + 2 * count ≤ length self.now.bytes }
+        ensures answer { result ≡ words_from self.now.bytes self.now.at count }
+        ensures long { length result ≡ count }
+    {
+        let (words, _) = self.bytes[self.at..self.at + 2 * count].as_chunks::<2>();
+        let mut items = [0; 16];
+        for (k, word) in words.iter().enumerate() {
+            items[k] = u16::from_be_bytes(*word);
+        }
+        WordList::new(&items[..count])
+    }
+
     // The next so many words.
     fn words(&mut self, count: u16) -> Result<WordList, LinearFault>
         requires few { count ≤ 16 }
         ensures answer { result ≡ words_in self.old.bytes self.old.place count self.old.at }
         ensures moves { IfOk result (λ xs. self.new ≡ to self.old (self.old.at + 2 * length xs)) }
     {
-        if self.bytes.len() - self.at < 2 * usize::from(count) {
+        let count = usize::from(count);
+        if self.bytes.len() - self.at < 2 * count {
             return Err(LinearFault::Length(self.place));
         }
-        let (words, _) = self.bytes[self.at..self.at + 2 * usize::from(count)].as_chunks::<2>();
-        let mut items = WordList::default();
-        for word in words {
-            items.push(u16::from_be_bytes(*word));
-        }
-        self.at += 2 * usize::from(count);
-        Ok(items)
+        let words = self.words_here(count);
+        self.at += 2 * count;
+        Ok(words)
     }
 
     // The next list with its count in front, of at most `most` words.

@@ -55,8 +55,9 @@ impl Cursor {
         ensures { Turned (L.Language.meaning language.now) (N.Nodes.sizes nodes.now) (N.Nodes.tree nodes.now) (top self.old.frames.items) (below self.old.frames.items) result self.new.frames.items }
     {
         let frame = self.top();
+        let node = frame.node;
         let valuation = frame.valuation;
-        match nodes.branch(frame.node) {
+        match nodes.branch(node) {
             Branch::Dead => {
                 self.frames.pop();
                 None
@@ -89,10 +90,7 @@ impl Cursor {
             }
             Branch::Leaf => {
                 self.frames.pop();
-                Some(Found {
-                    node: frame.node,
-                    valuation,
-                })
+                Some(Found { node, valuation })
             }
         }
     }
