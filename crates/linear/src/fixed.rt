@@ -54,8 +54,8 @@ impl<T: Item, const MOST: usize> Default for FixedList<T, MOST> {
 }
 
 impl<T: Item, const MOST: usize> FixedList<T, MOST> {
-    // The first of the items, as many as there is room for. A loop that makes many lists fills an array and hands it over:
-    // pushes wait for one another, as each reads the count that the one before it stored.
+    // The first of the items, as many as there is room for; the others are left out. A loop that makes many lists fills an
+    // array and hands it over: with a count this short each push waits for what the one before it stored.
     pub fn new(items: &[T]) -> Self
         ensures answer { result ≡ take (min MOST 65535) items.now }
     {
